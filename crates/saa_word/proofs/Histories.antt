@@ -7,7 +7,7 @@ use Rattle.saa_word_steps.specs.declared.rules.Rules.{Rules}
 use Rattle.saa_word_steps.specs.AbstractState.{IsRun, opening}
 use Rattle.saa_word_steps.specs.Needs.{needs_of}
 use Rattle.saa_word_proofs.specs.History.{of_place}
-use Rattle.saa_word_proofs.specs.Promises.{Observes}
+use Rattle.saa_word_proofs.specs.Promises.{WordsShow}
 use Rattle.saa_word_proofs.proofs.RefinementLemmas.Promises.{says-so}
 use Rattle.saa_word.specs.declared.moves.Move.{Move}
 use Rattle.saa_word.specs.declared.moves.Move.TheVariants.{Start, Go}
@@ -114,9 +114,9 @@ all-simulated state trace moves steps events after last tracks all =
     let run : IsRun (needs_of state.rules) (opening trace.withheld) (trace.history ++ events) last.state =
     run-append (needs_of state.rules) (opening trace.withheld) trace.state last.state trace.history events tracks.run
     (all-run state trace moves steps events after last all) in
-    let shown : Observes (needs_of state.rules) (length state.places) (row_of after) last.state =
-    subst (λ (r : Rules). Observes (needs_of r) (length state.places) (row_of after) last.state) rules
-    (subst (λ n. Observes (needs_of after.rules) n (row_of after) last.state) (all-places state trace moves steps events after last all)
+    let shown : WordsShow (needs_of state.rules) (length state.places) (row_of after) last.state =
+    subst (λ (r : Rules). WordsShow (needs_of r) (length state.places) (row_of after) last.state) rules
+    (subst (λ n. WordsShow (needs_of after.rules) n (row_of after) last.state) (all-places state trace moves steps events after last all)
     (says-so (needs_of after.rules) (length after.places) (row_of after) (place_of after) last.state now.refines)) in
     let conserved : Conserves after last = conserves after last now.run in
     record {

@@ -5,7 +5,7 @@ use Rattle.saa_core_spec.proofs.Counts.{number_same, same_number}
 use Rattle.saa_word_steps.specs.declared.place.Place.{Place}
 use Rattle.saa_word_steps.specs.Needs.{Needs}
 use Rattle.saa_word_steps.specs.AbstractState.{AbstractState}
-use Rattle.saa_word_proofs.specs.Refinement.{is_holder, Refines}
+use Rattle.saa_word_proofs.specs.Refinement.{is_holder, Invariant}
 use Rattle.saa_word_proofs.specs.Rows.{main_of}
 use Rattle.saa_word.specs.Simulation.{holder_after}
 
@@ -58,7 +58,7 @@ is-taken was now me agree none now_some =
 
 -- Where one place alone moved
 pub held-after : (needs : Needs) (places many : ℕ) (row other : ℕ → ℕ) (standing after : ℕ → Place) (abstract last : AbstractState) (me : ℕ)
-    → (s : Refines needs places row standing abstract) (t : Refines needs many other after last) → ((place : ℕ) → place == me ≡ false → after place ≡ standing place)
+    → (s : Invariant needs places row standing abstract) (t : Invariant needs many other after last) → ((place : ℕ) → place == me ≡ false → after place ≡ standing place)
     → t.holder ≡ holder_after s.holder me (main_of row) (main_of other)
 held-after needs places many row other standing after abstract last me s t apart =
     let agree : (place : ℕ) → place == me ≡ false → (s.holder == place + 1) ≡ (t.holder == place + 1) = λ place differs.
@@ -74,7 +74,7 @@ held-after needs places many row other standing after abstract last me s t apart
     ]
 
 -- and where none did
-pub held-same : (needs : Needs) (places : ℕ) (row : ℕ → ℕ) (standing : ℕ → Place) (abstract : AbstractState) (me : ℕ) (s : Refines needs places row standing abstract)
+pub held-same : (needs : Needs) (places : ℕ) (row : ℕ → ℕ) (standing : ℕ → Place) (abstract : AbstractState) (me : ℕ) (s : Invariant needs places row standing abstract)
     → holder_after s.holder me (main_of row) (main_of row) ≡ s.holder
 held-same needs places row standing abstract me s =
     elim (cases_Bool (main_of row).is_flagged) [

@@ -14,12 +14,12 @@ use Rattle.saa_word_steps.specs.declared.place.Place.{Place}
 use Rattle.saa_word_steps.specs.declared.place.Next.{Next}
 use Rattle.saa_word_steps.specs.declared.place.Next.TheVariants.{Going as GoesOn, Waits as HasToWait, Done as IsDone}
 use Rattle.saa_word_steps.specs.declared.place.Stage.{Stage}
-use Rattle.saa_word_steps.specs.declared.place.Stage.TheVariants.{Quiet, ReadLoad, AskLoad, AskExchange, Prepare, Join, ReleaseLoad, ReleaseExchange, BackLoad, BackStore, Forward, CutToClose, CutToGoRound, Close, Empty, GoRound, ShowLoad, ShowStore, Take, FlagLoad, FlagExchange, LookLoad, LookStore, Unlink, DropTail, PoisonLoad, PoisonExchange, Clear}
+use Rattle.saa_word_steps.specs.declared.place.Stage.TheVariants.{Quiet, ReadLoad, AcquireLoad, AcquireExchange, Prepare, Join, ReleaseLoad, ReleaseExchange, BackLoad, BackStore, Forward, CutToClose, CutForRetry, Close, Empty, Retry, ShowLoad, ShowStore, Take, FlagLoad, FlagExchange, LookLoad, LookStore, Unlink, DropTail, PoisonLoad, PoisonExchange, Clear}
 use Rattle.saa_word_steps.specs.Needs.{Needs, needs_of}
 use Rattle.saa_word_steps.specs.AbstractState.{AbstractState, opening}
 use Rattle.saa_word_steps.specs.Steps.{next_of, started, word_at, written_by}
 use Rattle.saa_word_steps.specs.Readings.{is_taken}
-use Rattle.saa_word_proofs.specs.Refinement.{Refines}
+use Rattle.saa_word_proofs.specs.Refinement.{Invariant}
 use Rattle.saa_word_proofs.specs.Rows.{updated}
 use Rattle.saa_word_proofs.specs.StepRefinement.{StepRefines, place_after}
 use Rattle.saa_word_proofs.specs.Promises.{idle_place, opening_row}
@@ -44,8 +44,8 @@ made_of rules step row places operations last_word =
 pub quiet-stage : (stage : Stage) → is_quiet stage ≡ true → stage ≡ Quiet
 quiet-stage Quiet is = refl
 quiet-stage (ReadLoad reading) is = absurd (cc)
-quiet-stage (AskLoad ask) is = absurd (cc)
-quiet-stage (AskExchange ask seen) is = absurd (cc)
+quiet-stage (AcquireLoad ask) is = absurd (cc)
+quiet-stage (AcquireExchange ask seen) is = absurd (cc)
 quiet-stage (Prepare request seen) is = absurd (cc)
 quiet-stage (Join request seen) is = absurd (cc)
 quiet-stage (ReleaseLoad given) is = absurd (cc)
@@ -54,10 +54,10 @@ quiet-stage (BackLoad seen current newer) is = absurd (cc)
 quiet-stage (BackStore seen current newer line) is = absurd (cc)
 quiet-stage (Forward seen current count) is = absurd (cc)
 quiet-stage (CutToClose seen current count line) is = absurd (cc)
-quiet-stage (CutToGoRound seen current count line) is = absurd (cc)
+quiet-stage (CutForRetry seen current count line) is = absurd (cc)
 quiet-stage (Close seen count top) is = absurd (cc)
 quiet-stage (Empty seen current count line) is = absurd (cc)
-quiet-stage (GoRound seen count top) is = absurd (cc)
+quiet-stage (Retry seen count top) is = absurd (cc)
 quiet-stage (ShowLoad current value afterwards) is = absurd (cc)
 quiet-stage (ShowStore current next value afterwards) is = absurd (cc)
 quiet-stage (Take taking) is = absurd (cc)
@@ -91,20 +91,20 @@ other-place standing me other place differs = rw differs refl
 
 -- the words and places of a machine, where one of each was written
 pub stands-set : (needs : Needs) (row : List ℕ) (places : List Place) (at number me : ℕ) (place : Place) (abstract : AbstractState) → at < length row → me < length places
-    → Refines needs (length places) (updated (λ (n : ℕ). get_or row n 0) at number) (updated (place_in places) me place) abstract
-    → Refines needs (length (set places me place)) (λ (n : ℕ). get_or (set row at number) n 0) (place_in (set places me place)) abstract
+    → Invariant needs (length places) (updated (λ (n : ℕ). get_or row n 0) at number) (updated (place_in places) me place) abstract
+    → Invariant needs (length (set places me place)) (λ (n : ℕ). get_or (set row at number) n 0) (place_in (set places me place)) abstract
 stands-set needs row places at number me place abstract inside here s =
-    subst (λ (n : ℕ). Refines needs n (λ (n : ℕ). get_or (set row at number) n 0) (place_in (set places me place)) abstract) (sym (length-set places me place))
-    (subst (λ (r : ℕ → ℕ). Refines needs (length places) r (place_in (set places me place)) abstract) (sym (set-updated row at number 0 inside))
-    (subst (λ (f : ℕ → Place). Refines needs (length places) (updated (λ (n : ℕ). get_or row n 0) at number) f abstract) (sym (set-updated places me place idle_place here)) s))
+    subst (λ (n : ℕ). Invariant needs n (λ (n : ℕ). get_or (set row at number) n 0) (place_in (set places me place)) abstract) (sym (length-set places me place))
+    (subst (λ (r : ℕ → ℕ). Invariant needs (length places) r (place_in (set places me place)) abstract) (sym (set-updated row at number 0 inside))
+    (subst (λ (f : ℕ → Place). Invariant needs (length places) (updated (λ (n : ℕ). get_or row n 0) at number) f abstract) (sym (set-updated places me place idle_place here)) s))
 
 -- the same where a place alone was
 pub stands-placed : (needs : Needs) (row : List ℕ) (places : List Place) (me : ℕ) (place : Place) (abstract : AbstractState) → me < length places
-    → Refines needs (length places) (λ (n : ℕ). get_or row n 0) (updated (place_in places) me place) abstract
-    → Refines needs (length (set places me place)) (λ (n : ℕ). get_or row n 0) (place_in (set places me place)) abstract
+    → Invariant needs (length places) (λ (n : ℕ). get_or row n 0) (updated (place_in places) me place) abstract
+    → Invariant needs (length (set places me place)) (λ (n : ℕ). get_or row n 0) (place_in (set places me place)) abstract
 stands-placed needs row places me place abstract here s =
-    subst (λ (n : ℕ). Refines needs n (λ (n : ℕ). get_or row n 0) (place_in (set places me place)) abstract) (sym (length-set places me place))
-    (subst (λ (f : ℕ → Place). Refines needs (length places) (λ (n : ℕ). get_or row n 0) f abstract) (sym (set-updated places me place idle_place here)) s)
+    subst (λ (n : ℕ). Invariant needs n (λ (n : ℕ). get_or row n 0) (place_in (set places me place)) abstract) (sym (length-set places me place))
+    (subst (λ (f : ℕ → Place). Invariant needs (length places) (λ (n : ℕ). get_or row n 0) f abstract) (sym (set-updated places me place idle_place here)) s)
 
 -- what a place in a call does next
 pub stepped-by : (state : State) (abstract : AbstractState) (me : ℕ) → (needs_of state.rules).top < 2 ^ count_bits → length state.places < 2 ^ 16 → me < length state.places → RefinesAs state abstract
@@ -174,11 +174,11 @@ replicated (suc count) value (suc index) = replicated count value index
 pub opened-stands : (rules : Rules) (count places : ℕ) → (needs_of rules).top < 2 ^ count_bits → count ≤ (needs_of rules).top
     → RefinesAs (opened rules count places) (opening count)
 opened-stands rules count places wide small =
-    subst (λ (n : ℕ). Refines (needs_of rules) n (row_of (opened rules count places)) (place_of (opened rules count places)) (opening count))
+    subst (λ (n : ℕ). Invariant (needs_of rules) n (row_of (opened rules count places)) (place_of (opened rules count places)) (opening count))
     (sym (length-replicate places idle_place))
-    (subst (λ (r : ℕ → ℕ). Refines (needs_of rules) places r (place_of (opened rules count places)) (opening count))
+    (subst (λ (r : ℕ → ℕ). Invariant (needs_of rules) places r (place_of (opened rules count places)) (opening count))
     (all-same (opening_row count) (row_of (opened rules count places)) (opened-row count (2 * places)))
-    (subst (λ (f : ℕ → Place). Refines (needs_of rules) places (opening_row count) f (opening count))
+    (subst (λ (f : ℕ → Place). Invariant (needs_of rules) places (opening_row count) f (opening count))
     (all-same (λ place. idle_place) (place_of (opened rules count places)) (λ place. sym (replicated places idle_place place)))
     (opens (needs_of rules) wide places count small)))
   where

@@ -8,16 +8,16 @@ use Rattle.saa_word_steps.specs.declared.call.WordCall.{WordCall}
 use Rattle.saa_word_steps.specs.declared.event.Event.{Event}
 use Rattle.saa_word_steps.specs.declared.place.Place.{Place}
 use Rattle.saa_word_steps.specs.declared.place.Ask.{Ask}
-use Rattle.saa_word_steps.specs.declared.place.Afterwards.{Afterwards}
-use Rattle.saa_word_steps.specs.declared.place.Afterwards.TheVariants.{Ends, Again}
-use Rattle.saa_word_steps.specs.declared.place.Given.{Given}
-use Rattle.saa_word_steps.specs.declared.place.Back.{Back}
-use Rattle.saa_word_steps.specs.declared.place.Back.TheVariants.{Tells, Ends as EndsCall, Takes}
+use Rattle.saa_word_steps.specs.declared.place.AfterShow.{AfterShow}
+use Rattle.saa_word_steps.specs.declared.place.AfterShow.TheVariants.{Ends, Again}
+use Rattle.saa_word_steps.specs.declared.place.ReleaseAmount.{ReleaseAmount}
+use Rattle.saa_word_steps.specs.declared.place.AfterWalk.{AfterWalk}
+use Rattle.saa_word_steps.specs.declared.place.AfterWalk.TheVariants.{Tells, Ends as EndsCall, Takes}
 use Rattle.saa_word_steps.specs.declared.place.Registration.{Registration}
-use Rattle.saa_word_steps.specs.declared.place.Taking.{Taking}
-use Rattle.saa_word_steps.specs.declared.place.Taking.TheVariants.{Tries, Awaits, Gives}
+use Rattle.saa_word_steps.specs.declared.place.PollMode.{PollMode}
+use Rattle.saa_word_steps.specs.declared.place.PollMode.TheVariants.{Tries, Awaits, Gives}
 use Rattle.saa_word_steps.specs.declared.place.Stage.{Stage}
-use Rattle.saa_word_steps.specs.declared.place.Stage.TheVariants.{Quiet, ReadLoad, AskLoad, AskExchange, Prepare, Join, ReleaseLoad, ReleaseExchange, BackLoad, BackStore, Forward, CutToClose, CutToGoRound, Close, Empty, GoRound, ShowLoad, ShowStore, Take, FlagLoad, FlagExchange, LookLoad, LookStore, Unlink, DropTail, PoisonLoad, PoisonExchange, Clear}
+use Rattle.saa_word_steps.specs.declared.place.Stage.TheVariants.{Quiet, ReadLoad, AcquireLoad, AcquireExchange, Prepare, Join, ReleaseLoad, ReleaseExchange, BackLoad, BackStore, Forward, CutToClose, CutForRetry, Close, Empty, Retry, ShowLoad, ShowStore, Take, FlagLoad, FlagExchange, LookLoad, LookStore, Unlink, DropTail, PoisonLoad, PoisonExchange, Clear}
 use Rattle.saa_word_steps.specs.declared.place.Next.{Next}
 use Rattle.saa_word_steps.specs.declared.place.Next.TheVariants.{Going as GoesOn, Waits as HasToWait, Done as IsDone}
 use Rattle.saa_word_steps.specs.Needs.{Needs, fits_count}
@@ -28,7 +28,7 @@ use Rattle.saa_word_proofs.specs.StepRefinement.{place_after}
 use Rattle.saa_word.specs.declared.moves.Move.TheVariants.{Start, Go}
 use Rattle.saa_word.specs.Moves.{step_of}
 use Rattle.saa_word.specs.Simulation.{call_after}
-use Rattle.saa_word.specs.Trace.{Underway}
+use Rattle.saa_word.specs.Trace.{PendingCall}
 use Rattle.saa_word.specs.Tracks.{IsFresh, IsIn, seeks_flag}
 
 -- whether a place that goes on so seeks the flag then
@@ -44,7 +44,7 @@ either : (test : Bool) (one other : Next) → TurnsAway one → TurnsAway other 
 either true one other o t = o
 either false one other o t = t
 
-on-finished : (place : Place) (back : Back) → TurnsAway (finished place back)
+on-finished : (place : Place) (back : AfterWalk) → TurnsAway (finished place back)
 on-finished place Tells = refl
 on-finished place EndsCall = refl
 on-finished place (Takes request) = refl
@@ -60,27 +60,27 @@ on-decided needs place ask seen =
     (either ask.joins _ _ refl refl)
     (either (needs.takes ask.request == 0) _ _ (on-granted needs place ask) refl))
 
-on-nothing : (place : Place) (back : Back) → TurnsAway (gave_nothing place back)
+on-nothing : (place : Place) (back : AfterWalk) → TurnsAway (gave_nothing place back)
 on-nothing place Tells = refl
 on-nothing place EndsCall = refl
 on-nothing place (Takes request) = refl
 
-on-left : (place : Place) (what : Given) (seen : Word) (left : Option ℕ) → TurnsAway (given_to place what seen left)
+on-left : (place : Place) (what : ReleaseAmount) (seen : Word) (left : Option ℕ) → TurnsAway (given_to place what seen left)
 on-left place what seen None = on-nothing place place.back
 on-left place what seen (Some left) = refl
 
-on-given : (needs : Needs) (place : Place) (what : Given) (seen : Word) → TurnsAway (given needs place what seen)
+on-given : (needs : Needs) (place : Place) (what : ReleaseAmount) (seen : Word) → TurnsAway (given needs place what seen)
 on-given needs place what seen =
     either seen.is_poisoned _ _ (on-nothing place place.back) (on-left place what seen (left_from needs seen.count what))
 
-on-shown : (place : Place) (afterwards : Afterwards) → TurnsAway (shown_all place afterwards)
+on-shown : (place : Place) (afterwards : AfterShow) → TurnsAway (shown_all place afterwards)
 on-shown place Ends = on-finished place place.back
 on-shown place (Again seen) = refl
 
 on-dropped : (needs : Needs) (place : Place) (request value : ℕ) → TurnsAway (dropped needs place request value)
 on-dropped needs place request value = either (value == granted_value && not (needs.takes request == 0)) _ _ refl refl
 
-on-taken : (needs : Needs) (place : Place) (taking : Taking) (answer : Option ℕ) → TurnsAway (taken_answer needs place taking answer)
+on-taken : (needs : Needs) (place : Place) (taking : PollMode) (answer : Option ℕ) → TurnsAway (taken_answer needs place taking answer)
 on-taken needs place (Gives request) (Some value) = on-dropped needs place request value
 on-taken needs place (Gives request) None = refl
 on-taken needs place Awaits (Some value) = refl
@@ -104,8 +104,8 @@ on-closing place seen count top found =
 turns-away : (needs : Needs) (me : ℕ) (place : Place) (stage : Stage) (found : ℕ) → place.stage ≡ stage → seeks_flag stage ≡ false → TurnsAway (next_of needs me place stage found)
 turns-away needs me place Quiet found at other = subst (λ (s : Stage). seeks_flag s ≡ false) (sym at) refl
 turns-away needs me place (ReadLoad reading) found at other = refl
-turns-away needs me place (AskLoad ask) found at other = on-decided needs place ask (word_of count_bits found)
-turns-away needs me place (AskExchange ask seen) found at other =
+turns-away needs me place (AcquireLoad ask) found at other = on-decided needs place ask (word_of count_bits found)
+turns-away needs me place (AcquireExchange ask seen) found at other =
     either (found == word_number count_bits seen) _ _ (on-granted needs place ask) (on-decided needs place ask (word_of count_bits found))
 turns-away needs me place (Prepare request seen) found at other = refl
 turns-away needs me place (Join request seen) found at other =
@@ -119,11 +119,11 @@ turns-away needs me place (BackLoad seen current newer) found at other = refl
 turns-away needs me place (BackStore seen current newer line) found at other = either (line.older == 0) _ _ refl refl
 turns-away needs me place (Forward seen current count) found at other = on-looked needs place seen current count (line_word_of found)
 turns-away needs me place (CutToClose seen current count line) found at other = refl
-turns-away needs me place (CutToGoRound seen current count line) found at other = refl
+turns-away needs me place (CutForRetry seen current count line) found at other = refl
 turns-away needs me place (Close seen count top) found at other = on-closing place seen count top found
 turns-away needs me place (Empty seen current count line) found at other =
     either (found == word_number count_bits seen) _ _ refl (either (line.older == 0) _ _ refl refl)
-turns-away needs me place (GoRound seen count top) found at other = either (top == 0) _ _ refl refl
+turns-away needs me place (Retry seen count top) found at other = either (top == 0) _ _ refl refl
 turns-away needs me place (ShowLoad current value afterwards) found at other = refl
 turns-away needs me place (ShowStore current next value afterwards) found at other = either (next == 0) _ _ (on-shown place afterwards) refl
 turns-away needs me place (Take taking) found at other = on-taken needs place taking (answer_of (found % 65536))
@@ -154,7 +154,7 @@ seeks-free (PoisonExchange seen) seeks = refl
 seeks-free stage seeks = absurd (cc)
 
 -- the call of a place behind its step
-pub fresh-next : (registered : Registration) (holds : Bool) (underway : Option Underway) (me : ℕ) (events : List Event) (place : Place) (next : Next)
+pub fresh-next : (registered : Registration) (holds : Bool) (underway : Option PendingCall) (me : ℕ) (events : List Event) (place : Place) (next : Next)
     → IsFresh underway place.stage → (seeks_next next ≡ true → seeks_flag place.stage ≡ true) → is_holder (place_after place next).stage ≡ holds
     → IsFresh (call_after registered holds underway (Go me) events (step_of next)) (place_after place next).stage
 fresh-next registered holds None me events place (GoesOn behind) fresh sought one = tt
@@ -168,7 +168,7 @@ fresh-next registered holds (Some underway) me events place HasToWait fresh soug
 fresh-next registered holds (Some underway) me events place (IsDone behind answer) fresh sought one = tt
 
 -- and behind its start
-pub fresh-begun : (needs : Needs) (registered : Registration) (holds : Bool) (underway : Option Underway) (me : ℕ) (call : WordCall) (place : Place) (next : Next)
+pub fresh-begun : (needs : Needs) (registered : Registration) (holds : Bool) (underway : Option PendingCall) (me : ℕ) (call : WordCall) (place : Place) (next : Next)
     → IsIn needs underway place → IsBegun needs call place.registration next → place.stage ≡ Quiet
     → IsFresh (call_after registered holds underway (Start me call) [] (step_of next)) (place_after place next).stage
 fresh-begun needs registered holds underway me call place (GoesOn behind) is begun quiet = λ seeks. refl

@@ -14,7 +14,7 @@ use Rattle.saa_word_steps.specs.Needs.{needs_of}
 use Rattle.saa_word_proofs.specs.Rows.{updated}
 use Rattle.saa_word_proofs.specs.StepRefinement.{place_after, row_after}
 use Rattle.saa_word_proofs.specs.Promises.{idle_place}
-use Rattle.saa_word_proofs.specs.Alone.{IsCalledAlone, IsQuiet, Mirrors, Moment, next_at, put, stepped}
+use Rattle.saa_word_proofs.specs.Alone.{IsCalledAlone, PlacesAreQuiescent, PlacesRepresent, Configuration, next_at, put, stepped}
 use Rattle.saa_word_proofs.specs.Agrees.{Agrees}
 use Rattle.saa_word_proofs.specs.Ends.{Ends}
 use Rattle.saa_word_proofs.proofs.SoloLemmas.Alone.{alone, rules-lawful}
@@ -22,20 +22,20 @@ use Rattle.saa_word_proofs.proofs.SoloLemmas.Ends.{ends}
 use Rattle.saa_word.specs.declared.moves.Move.TheVariants.{Start, Go}
 use Rattle.saa_word.specs.Machine.{State, is_lock, place_of, row_of}
 use Rattle.saa_word.specs.Moves.{gone, is_quiet, step_of, found_by, operation_at, worked_at}
-use Rattle.saa_word.specs.Trace.{IsQuiescent, Trace, Underway}
+use Rattle.saa_word.specs.Trace.{IsQuiescent, Trace, PendingCall}
 use Rattle.saa_word.specs.Tracks.{IsIn, Tracks}
 use Rattle.saa_word.specs.Solo.{IsRepresented}
 use Rattle.saa_word_proofs.proofs.SoloLemmas.Books.{mirrored}
 use Rattle.saa_word.proofs.Keeping.{set-updated, stepped-by}
 
 -- the words and the places of a machine
-abbrev pub moment_of : State → Moment
+abbrev pub moment_of : State → Configuration
 moment_of state = record { row = row_of state; standing = place_of state }
 
 -- while no place is in a call, each is quiet
-pub all-quiet : (state : State) (trace : Trace) → Tracks state trace → IsQuiescent trace → IsQuiet (place_of state)
+pub all-quiet : (state : State) (trace : Trace) → Tracks state trace → IsQuiescent trace → PlacesAreQuiescent (place_of state)
 all-quiet state trace tracks quiescent =
-    λ place. subst (λ (u : Option Underway). IsIn (needs_of state.rules) u (place_of state place)) (quiescent place) (tracks.calls place)
+    λ place. subst (λ (u : Option PendingCall). IsIn (needs_of state.rules) u (place_of state place)) (quiescent place) (tracks.calls place)
 
 -- some sequential object represents each machine
 pub represented : (state : State) (trace : Trace) → (s : Object) × IsRepresented state trace s
@@ -45,10 +45,10 @@ represented state trace =
 
 -- a moment by its parts
 moment-same : (row other_row : ℕ → ℕ) (standing other : ℕ → Place) → row ≡ other_row → standing ≡ other
-    → (let one : Moment = record { row = row; standing = standing } in one) ≡ record { row = other_row; standing = other }
+    → (let one : Configuration = record { row = row; standing = standing } in one) ≡ record { row = other_row; standing = other }
 moment-same row other_row standing other rows places =
-    ap (λ (r : ℕ → ℕ). let now : Moment = record { row = r; standing = standing } in now) rows
-    ∙ ap (λ (f : ℕ → Place). let now : Moment = record { row = other_row; standing = f } in now) places
+    ap (λ (r : ℕ → ℕ). let now : Configuration = record { row = r; standing = standing } in now) rows
+    ∙ ap (λ (f : ℕ → Place). let now : Configuration = record { row = other_row; standing = f } in now) places
 
 pub begins-alone : (state : State) (me : ℕ) (call : WordCall) → me < length state.places → is_quiet (place_of state me).stage ≡ true
     → (moment_of (gone state (Start me call)).machine ≡ put me (started (needs_of state.rules) (place_of state me) call) (moment_of state))
@@ -84,9 +84,9 @@ ends-alone state trace me call tracks rests here taken absent =
     ends (needs_of state.rules) (rules-lawful state.rules) tracks.sized.wide (length state.places) (row_of state) (place_of state) trace.state me call
     (omega (arith, tracks.sized.few)) here tracks.refines (all-quiet state trace tracks rests) taken absent
 
-pub agrees-alone : (state : State) (trace : Trace) (me : ℕ) (is_sync : Bool) (call : WordCall) (s : Object) (steps : ℕ) (answer : Answer) (last : Moment)
+pub agrees-alone : (state : State) (trace : Trace) (me : ℕ) (is_sync : Bool) (call : WordCall) (s : Object) (steps : ℕ) (answer : Answer) (last : Configuration)
     → Tracks state trace → IsQuiescent trace → me < length state.places → is_taken (is_lock state) call ≡ true
-    → Mirrors (needs_of state.rules) (length state.places) (place_of state) trace.state s
+    → PlacesRepresent (needs_of state.rules) (length state.places) (place_of state) trace.state s
     → IsCalledAlone (needs_of state.rules) (length state.places) me call steps (moment_of state) answer last
     → Agrees (needs_of state.rules) (length state.places) me is_sync call s answer last
 agrees-alone state trace me is_sync call s steps answer last tracks rests here taken mirrors called =

@@ -15,8 +15,8 @@ use Rattle.saa_word_steps.specs.Needs.{Needs, needs_of}
 use Rattle.saa_word_steps.specs.AbstractState.{AbstractState, held_by, is_in}
 use Rattle.saa_word_steps.proofs.AbstractRuns.{waits-some}
 use Rattle.saa_core_spec.specs.Object.{Object, one_if}
-use Rattle.saa_word_steps.specs.declared.place.Registration.TheVariants.{Idle as IsIdle, Once, Slot}
-use Rattle.saa_word_steps.specs.declared.place.Taking.TheVariants.{Awaits}
+use Rattle.saa_word_steps.specs.declared.place.Registration.TheVariants.{Idle as IsIdle, AnsweredAtOnce, Queued}
+use Rattle.saa_word_steps.specs.declared.place.PollMode.TheVariants.{Awaits}
 use Rattle.saa_word_proofs.specs.Registering.{is_slot}
 use Rattle.saa_word_proofs.proofs.SoloLemmas.Waiting.{left-waiting}
 use Rattle.saa_word_steps.specs.Steps.{polled_as, started}
@@ -24,14 +24,14 @@ use Rattle.saa_word_steps.specs.Readings.{is_taken}
 use Rattle.saa_word_proofs.specs.CallStages.{IsUnder}
 use Rattle.saa_word_proofs.specs.History.{named}
 use Rattle.saa_word_proofs.proofs.RefinementLemmas.Lists.{updated-at}
-use Rattle.saa_word_proofs.specs.Alone.{Mirrors, Moment, IsCalledAlone, IsDoneIn, IsEither, next_at, put, stepped}
+use Rattle.saa_word_proofs.specs.Alone.{PlacesRepresent, Configuration, IsCalledAlone, IsDoneIn, IsEither, next_at, put, stepped}
 use Rattle.saa_word.specs.declared.moves.Move.TheVariants.{Start, Go}
 use Rattle.saa_word.specs.declared.moves.Step.{Step}
 use Rattle.saa_word.specs.declared.moves.Move.{Move}
 use Rattle.saa_word.specs.declared.moves.Step.TheVariants.{Idle, Going, Waits, Done}
 use Rattle.saa_word_steps.specs.declared.place.Stage.TheVariants.{Quiet}
 use Rattle.saa_word_proofs.specs.Rows.{main_of}
-use Rattle.saa_word_proofs.specs.Promises.{Observes}
+use Rattle.saa_word_proofs.specs.Promises.{WordsShow}
 use Rattle.saa_word_proofs.specs.Represents.{Represents, called as called_by}
 use Rattle.saa_word_proofs.proofs.RefinementLemmas.Lists.{all-same}
 use Rattle.saa_word_proofs.proofs.RefinementLemmas.Promises.{says-so}
@@ -40,7 +40,7 @@ use Rattle.saa_word_proofs.proofs.SoloLemmas.SameWords.{represents-same}
 use Rattle.saa_word.specs.Machine.{IsMove, State, is_lock, place_in, place_of, row_of}
 use Rattle.saa_word.specs.Moves.{gone, is_quiet, step_of}
 use Rattle.saa_word.specs.Runs.{ran}
-use Rattle.saa_word.specs.Trace.{IsQuiescent, Trace, Underway}
+use Rattle.saa_word.specs.Trace.{IsQuiescent, Trace, PendingCall}
 use Rattle.saa_word.specs.Tracks.{IsIn, Tracks}
 use Rattle.saa_word.specs.Simulation.{IsWaiting, SimulatesAll, WaitsRightly, call_after, holds_after, trace_after}
 use Rattle.saa_word.specs.Solo.{IsAnsweredAlone, IsSolo, solo_moves}
@@ -50,7 +50,7 @@ use Rattle.saa_word.proofs.Histories.{ran-places, ran-rules, simulates-all}
 use Rattle.saa_word.proofs.Solo.{agrees-alone, all-quiet, begins-alone, ends-alone, goes-alone, moment_of}
 
 -- a place in a call is in the middle of it
-in-middle : (needs : Needs) (place : Place) (underway : Option Underway) (u : Underway) → underway ≡ Some u → IsIn needs underway place → is_quiet place.stage ≡ false
+in-middle : (needs : Needs) (place : Place) (underway : Option PendingCall) (u : PendingCall) → underway ≡ Some u → IsIn needs underway place → is_quiet place.stage ≡ false
 in-middle needs place None u same is = absurd (cc)
 in-middle needs place (Some underway) u same is = by-test (is_quiet place.stage) refl
   where
@@ -59,32 +59,32 @@ in-middle needs place (Some underway) u same is = by-test (is_quiet place.stage)
     by-test true quiet = absurd (subst (λ stage. IsUnder needs underway.call underway.registered place.back stage underway.events) (quiet-stage place.stage quiet) is)
 
 -- the call that a place is in behind a step that goes on
-goes-call : (underway : Option Underway) (u : Underway) (registered : Registration) (holds : Bool) (me : ℕ) (events : List Event) (step : Step) → underway ≡ Some u → step ≡ Going
-    → (now : Underway) × (call_after registered holds underway (Go me) events step ≡ Some now)
+goes-call : (underway : Option PendingCall) (u : PendingCall) (registered : Registration) (holds : Bool) (me : ℕ) (events : List Event) (step : Step) → underway ≡ Some u → step ≡ Going
+    → (now : PendingCall) × (call_after registered holds underway (Go me) events step ≡ Some now)
 goes-call None u registered holds me events step same goes = absurd (cc)
 goes-call (Some underway) u registered holds me events step same goes =
     (_, ap (call_after registered holds (Some underway) (Go me) events) goes)
 
 -- steps that are done, as moves: all but the last go on
-abbrev IsRan : ℕ → State → ℕ → Answer → Moment → Type 0
+abbrev IsRan : ℕ → State → ℕ → Answer → Configuration → Type 0
 IsRan more state me answer last =
     ((ran state (replicate (suc more) (Go me))).steps ≡ replicate more Going ++ Done answer ∷ [])
     × (moment_of (ran state (replicate (suc more) (Go me))).machine ≡ last)
 
 -- how a place goes on at a moment of a machine, with so many steps to come
-abbrev IsOnward : ℕ → State → ℕ → Answer → Moment → Next → Type 0
+abbrev IsOnward : ℕ → State → ℕ → Answer → Configuration → Next → Type 0
 IsOnward more state me answer last next =
     IsEither next (IsDoneIn (needs_of state.rules) (length state.places) me more (stepped (needs_of state.rules) (length state.places) me (moment_of state)) answer last)
     (λ said. (more ≡ 0) × (said ≡ answer) × (stepped (needs_of state.rules) (length state.places) me (moment_of state) ≡ last))
 
-goes-as : (state : State) (trace : Trace) (me : ℕ) (u : Underway) → Tracks state trace → me < length state.places → trace.calls me ≡ Some u
+goes-as : (state : State) (trace : Trace) (me : ℕ) (u : PendingCall) → Tracks state trace → me < length state.places → trace.calls me ≡ Some u
     → (moment_of (gone state (Go me)).machine ≡ stepped (needs_of state.rules) (length state.places) me (moment_of state))
     × ((gone state (Go me)).step ≡ step_of (next_at (needs_of state.rules) (length state.places) me (moment_of state)))
 goes-as state trace me u tracks here calls =
     goes-alone state trace me tracks here (in-middle (needs_of state.rules) (place_of state me) (trace.calls me) u calls (tracks.calls me))
 
 -- the last step
-last-ran : (state : State) (trace : Trace) (me : ℕ) (u : Underway) (answer : Answer) (last : Moment) → Tracks state trace → me < length state.places
+last-ran : (state : State) (trace : Trace) (me : ℕ) (u : PendingCall) (answer : Answer) (last : Configuration) → Tracks state trace → me < length state.places
     → trace.calls me ≡ Some u → (next : Next) → next_at (needs_of state.rules) (length state.places) me (moment_of state) ≡ next
     → IsOnward 0 state me answer last next → IsRan 0 state me answer last
 last-ran state trace me u answer last tracks here calls HasToWait is done = absurd done
@@ -94,9 +94,9 @@ last-ran state trace me u answer last tracks here calls (IsDone place said) is d
     ((λ i. (goes.1 ∙ ap step_of is ∙ ap Done done.1) i ∷ []), goes.0 ∙ done.2)
 
 -- a step before the last one, where what comes behind it is known
-next-ran : (more : ℕ) (state : State) (trace : Trace) (me : ℕ) (u : Underway) (answer : Answer) (last : Moment) → Tracks state trace → me < length state.places
+next-ran : (more : ℕ) (state : State) (trace : Trace) (me : ℕ) (u : PendingCall) (answer : Answer) (last : Configuration) → Tracks state trace → me < length state.places
     → trace.calls me ≡ Some u
-    → ((machine : State) (after : Trace) (v : Underway) → Tracks machine after → me < length machine.places → after.calls me ≡ Some v
+    → ((machine : State) (after : Trace) (v : PendingCall) → Tracks machine after → me < length machine.places → after.calls me ≡ Some v
     → IsDoneIn (needs_of machine.rules) (length machine.places) me (suc more) (moment_of machine) answer last → IsRan more machine me answer last)
     → (next : Next) → next_at (needs_of state.rules) (length state.places) me (moment_of state) ≡ next
     → IsOnward (suc more) state me answer last next → IsRan (suc more) state me answer last
@@ -112,11 +112,11 @@ next-ran more state trace me u answer last tracks here calls further (GoesOn pla
     (updated-at trace.calls me (call_after (trace.registered me) (holds_after state (Go me) (gone state (Go me)) trace) (trace.calls me) (Go me) (named one.events) (gone state (Go me)).step) ∙ call.1)
     (subst (λ n. IsDoneIn (needs_of machine.rules) n me (suc more) (moment_of machine) answer last) (sym (gone-places state (Go me)))
     (subst (λ (r : Rules). IsDoneIn (needs_of r) (length state.places) me (suc more) (moment_of machine) answer last) (sym (gone-rules state (Go me)))
-    (subst (λ (m : Moment). IsDoneIn (needs_of state.rules) (length state.places) me (suc more) m answer last) (sym goes.0) done))) in
+    (subst (λ (m : Configuration). IsDoneIn (needs_of state.rules) (length state.places) me (suc more) m answer last) (sym goes.0) done))) in
     ((λ i. step i ∷ rest.0 i), rest.1)
 next-ran more state trace me u answer last tracks here calls further (IsDone place said) is done = (let wrong : suc more ≡ 0 = done.0 in absurd (cc))
 
-done-ran : (more : ℕ) (state : State) (trace : Trace) (me : ℕ) (u : Underway) (answer : Answer) (last : Moment) → Tracks state trace → me < length state.places
+done-ran : (more : ℕ) (state : State) (trace : Trace) (me : ℕ) (u : PendingCall) (answer : Answer) (last : Configuration) → Tracks state trace → me < length state.places
     → trace.calls me ≡ Some u → IsDoneIn (needs_of state.rules) (length state.places) me (suc more) (moment_of state) answer last → IsRan more state me answer last
 done-ran zero state trace me u answer last tracks here calls done =
     last-ran state trace me u answer last tracks here calls (next_at (needs_of state.rules) (length state.places) me (moment_of state)) refl done
@@ -126,12 +126,12 @@ done-ran (suc more) state trace me u answer last tracks here calls done =
     (next_at (needs_of state.rules) (length state.places) me (moment_of state)) refl done
 
 -- a call that starts
-begun-call : (registered : Registration) (holds : Bool) (underway : Option Underway) (me : ℕ) (call : WordCall) (events : List Event) (step : Step) → step ≡ Going
-    → (now : Underway) × (call_after registered holds underway (Start me call) events step ≡ Some now)
+begun-call : (registered : Registration) (holds : Bool) (underway : Option PendingCall) (me : ℕ) (call : WordCall) (events : List Event) (step : Step) → step ≡ Going
+    → (now : PendingCall) × (call_after registered holds underway (Start me call) events step ≡ Some now)
 begun-call registered holds underway me call events step goes = (_, ap (call_after registered holds underway (Start me call) events) goes)
 
 -- A solo run
-pub called-ran : (state : State) (trace : Trace) (me : ℕ) (call : WordCall) (goes : ℕ) (answer : Answer) (last : Moment) → Tracks state trace
+pub called-ran : (state : State) (trace : Trace) (me : ℕ) (call : WordCall) (goes : ℕ) (answer : Answer) (last : Configuration) → Tracks state trace
     → IsQuiescent trace → me < length state.places → is_taken (is_lock state) call ≡ true
     → IsCalledAlone (needs_of state.rules) (length state.places) me call goes (moment_of state) answer last
     → ((ran state (solo_moves me call goes)).steps ≡ replicate goes Going ++ Done answer ∷ []) × (moment_of (ran state (solo_moves me call goes)).machine ≡ last)
@@ -158,7 +158,7 @@ called-ran state trace me call goes answer last tracks rests here taken called =
         (subst (λ n. me < n) (sym (gone-places state (Start me call))) here) (updated-at trace.calls me (call_after (trace.registered me) (holds_after state (Start me call) (gone state (Start me call)) trace) (trace.calls me) (Start me call) (named one.events) (gone state (Start me call)).step) ∙ now.1)
         (subst (λ n. IsDoneIn (needs_of machine.rules) n me (suc more) (moment_of machine) answer last) (sym (gone-places state (Start me call)))
         (subst (λ (r : Rules). IsDoneIn (needs_of r) (length state.places) me (suc more) (moment_of machine) answer last) (sym (gone-rules state (Start me call)))
-        (subst (λ (m : Moment). IsDoneIn (needs_of state.rules) (length state.places) me (suc more) m answer last) (sym begins.0) called))) in
+        (subst (λ (m : Configuration). IsDoneIn (needs_of state.rules) (length state.places) me (suc more) m answer last) (sym begins.0) called))) in
         ((λ i. step i ∷ rest.0 i), rest.1)
     by-start zero (IsDone place said) is called = ((λ i. (begins.1 ∙ ap step_of is ∙ ap Done called.1) i ∷ []), begins.0 ∙ called.2)
     by-start (suc more) (IsDone place said) is called = (let wrong : suc more ≡ 0 = called.0 in absurd (cc))
@@ -213,7 +213,7 @@ solo-moves state me call goes here taken (suc k) d inside = each-go goes k d (om
     each-go (suc goes) (suc k) d inside = each-go goes k d (omega (arith, inside))
 
 -- a place that is quiet is in no call
-quiet-none : (needs : Needs) (underway : Option Underway) (place : Place) → place.stage ≡ Quiet → IsIn needs underway place → underway ≡ None
+quiet-none : (needs : Needs) (underway : Option PendingCall) (place : Place) → place.stage ≡ Quiet → IsIn needs underway place → underway ≡ None
 quiet-none needs None place quiet is = refl
 quiet-none needs (Some underway) place quiet is =
     absurd (subst (λ stage. IsUnder needs underway.call underway.registered place.back stage underway.events) quiet is)
@@ -223,7 +223,7 @@ registered-same : (state : State) (trace : Trace) → Tracks state trace → (λ
 registered-same state trace tracks = all-same (λ place. (place_of state place).registration) trace.registered tracks.registered
 
 -- a solo run whose call is done, with more moves behind it
-ended-solo : (state : State) (trace : Trace) (me : ℕ) (call : WordCall) (needed idle : ℕ) (answer : Answer) (last : Moment) → Tracks state trace → IsQuiescent trace
+ended-solo : (state : State) (trace : Trace) (me : ℕ) (call : WordCall) (needed idle : ℕ) (answer : Answer) (last : Configuration) → Tracks state trace → IsQuiescent trace
     → me < length state.places → is_taken (is_lock state) call ≡ true
     → IsCalledAlone (needs_of state.rules) (length state.places) me call needed (moment_of state) answer last
     → IsAnsweredAlone state trace me call needed idle (ran state (solo_moves me call (needed + idle))).steps (ran state (solo_moves me call (needed + idle))).machine
@@ -235,7 +235,7 @@ ended-solo state trace me call needed idle answer last tracks quiescent here tak
     let object = mirrored needs (length state.places) (place_of state) trace.state in
     let one = agrees-alone state trace me true call object.0 needed answer last tracks quiescent here taken object.1 called in
     let early_quiet : (place : ℕ) → (place_of early place).stage ≡ Quiet =
-    λ place. ap (λ (m : Moment). (m.standing place).stage) front.1 ∙ one.quiet place in
+    λ place. ap (λ (m : Configuration). (m.standing place).stage) front.1 ∙ one.quiet place in
     let idles = ran-idle idle early me (ap is_quiet (early_quiet me)) in
     let split : solo_moves me call (needed + idle) ≡ solo_moves me call needed ++ replicate idle (Go me) =
     ap (λ (l : List Move). Start me call ∷ l) (replicate-both needed idle (Go me)) in
@@ -246,7 +246,7 @@ ended-solo state trace me call needed idle answer last tracks quiescent here tak
     simulates-all state (solo_moves me call (needed + idle)) trace (solo-moves state me call (needed + idle) here taken) tracks in
     let then : Tracks after simulates.last = simulates.tracks in
     let quiet : (place : ℕ) → (place_of after place).stage ≡ Quiet =
-    λ place. ap (λ (m : Moment). (m.standing place).stage) moment_is ∙ one.quiet place in
+    λ place. ap (λ (m : Configuration). (m.standing place).stage) moment_is ∙ one.quiet place in
     let none : IsQuiescent simulates.last =
     λ place. quiet-none (needs_of after.rules) (simulates.last.calls place) (place_of after place) (quiet place) (then.calls place) in
     record {
@@ -257,23 +257,23 @@ ended-solo state trace me call needed idle answer last tracks quiescent here tak
       simulates = simulates;
       quiescent = none;
       agrees = λ is_sync s represented.
-          let mirrors : Mirrors needs (length state.places) (place_of state) trace.state s =
+          let mirrors : PlacesRepresent needs (length state.places) (place_of state) trace.state s =
           subst (λ (r : ℕ → Registration). Represents needs (length state.places) r trace.state s) (sym (registered-same state trace tracks)) represented in
           let a = agrees-alone state trace me is_sync call s needed answer last tracks quiescent here taken mirrors called in
           let ended : Object = (called_by (is_lock state) me is_sync call s).state in
           let rules_are : after.rules ≡ state.rules = ran-rules state (solo_moves me call (needed + idle)) in
           let places_are : length after.places ≡ length state.places = ran-places state (solo_moves me call (needed + idle)) in
           let now : Tracks after simulates.last = then in
-          let shows : Observes needs (length state.places) (row_of after) a.state =
-          subst (λ (m : Moment). Observes needs (length state.places) m.row a.state) (sym moment_is)
+          let shows : WordsShow needs (length state.places) (row_of after) a.state =
+          subst (λ (m : Configuration). WordsShow needs (length state.places) m.row a.state) (sym moment_is)
           (says-so needs (length state.places) last.row last.standing a.state a.stands) in
-          let also : Observes needs (length state.places) (row_of after) simulates.last.state =
-          subst (λ (r : Rules). Observes (needs_of r) (length state.places) (row_of after) simulates.last.state) rules_are
-          (subst (λ n. Observes (needs_of after.rules) n (row_of after) simulates.last.state) places_are
+          let also : WordsShow needs (length state.places) (row_of after) simulates.last.state =
+          subst (λ (r : Rules). WordsShow (needs_of r) (length state.places) (row_of after) simulates.last.state) rules_are
+          (subst (λ n. WordsShow (needs_of after.rules) n (row_of after) simulates.last.state) places_are
           (says-so (needs_of after.rules) (length after.places) (row_of after) (place_of after) simulates.last.state now.refines)) in
           let clear : (main_of (row_of after)).is_flagged ≡ false = (rests after simulates.last now none).clear in
           let standing : Represents needs (length state.places) (λ place. (place_of after place).registration) a.state ended =
-          subst (λ (m : Moment). Represents needs (length state.places) (λ place. (m.standing place).registration) a.state ended) (sym moment_is) a.mirrors in
+          subst (λ (m : Configuration). Represents needs (length state.places) (λ place. (m.standing place).registration) a.state ended) (sym moment_is) a.mirrors in
           let registered : Represents needs (length state.places) simulates.last.registered a.state ended =
           subst (λ (r : ℕ → Registration). Represents needs (length state.places) r a.state ended) (registered-same after simulates.last now) standing in
           let shown : Represents needs (length state.places) simulates.last.registered simulates.last.state ended =
@@ -285,7 +285,7 @@ ended-solo state trace me call needed idle answer last tracks quiescent here tak
     }
 
 -- a solo run with fewer steps than it needs
-begun-solo : (state : State) (trace : Trace) (me : ℕ) (call : WordCall) (needed goes : ℕ) (answer : Answer) (last : Moment) → Tracks state trace → IsQuiescent trace
+begun-solo : (state : State) (trace : Trace) (me : ℕ) (call : WordCall) (needed goes : ℕ) (answer : Answer) (last : Configuration) → Tracks state trace → IsQuiescent trace
     → me < length state.places → is_taken (is_lock state) call ≡ true
     → IsCalledAlone (needs_of state.rules) (length state.places) me call needed (moment_of state) answer last → goes < needed
     → (ran state (solo_moves me call goes)).steps ≡ replicate (goes + 1) Going
@@ -320,8 +320,8 @@ solo state trace me goes call tracks quiescent here taken absent =
 
 polls-going : (place : Place) (registration : Registration) → is_slot registration ≡ true → step_of (polled_as place Awaits registration) ≡ Going
 polls-going place IsIdle slot = absurd (cc)
-polls-going place (Once value request) slot = absurd (cc)
-polls-going place (Slot request) slot = refl
+polls-going place (AnsweredAtOnce value request) slot = absurd (cc)
+polls-going place (Queued request) slot = refl
 
 in-slot : (abstract : AbstractState) (me : ℕ) (slot : Bool) → held_by me abstract ≡ one_if slot → is_in me abstract.line ≡ true → slot ≡ true
 in-slot abstract me true held there = refl
@@ -329,7 +329,7 @@ in-slot abstract me false held there =
     let none : held_by me abstract ≡ 0 = held in absurd (omega (arith, none, waits-some me abstract.line there))
 
 -- the call that a place is in behind a step that waits
-waits-call : (underway : Option Underway) (u : Underway) (registered : Registration) (holds : Bool) (me : ℕ) (events : List Event) (step : Step) → underway ≡ Some u → step ≡ Waits
+waits-call : (underway : Option PendingCall) (u : PendingCall) (registered : Registration) (holds : Bool) (me : ℕ) (events : List Event) (step : Step) → underway ≡ Some u → step ≡ Waits
     → call_after registered holds underway (Go me) events step ≡ Some u
 waits-call None u registered holds me events step same waits = absurd (cc)
 waits-call (Some underway) u registered holds me events step same waits =
@@ -341,7 +341,7 @@ same-moment state after row places =
     λ i. record { row = λ index. slice_index (row i) index; standing = λ me. place_in (places i) me }
 
 -- so it waits again, as often as it moves while no other place does
-waits-on : (goes : ℕ) (state : State) (trace : Trace) (me : ℕ) (u : Underway) → Tracks state trace → me < length state.places → trace.calls me ≡ Some u
+waits-on : (goes : ℕ) (state : State) (trace : Trace) (me : ℕ) (u : PendingCall) → Tracks state trace → me < length state.places → trace.calls me ≡ Some u
     → next_at (needs_of state.rules) (length state.places) me (moment_of state) ≡ HasToWait → (ran state (replicate goes (Go me))).steps ≡ replicate goes Waits
 waits-on zero state trace me u tracks here calls waits = refl
 waits-on (suc more) state trace me u tracks here calls waits =

@@ -32,7 +32,7 @@ use Rattle.saa_word_proofs.specs.Refinement.{IsShowing, is_holder}
 use Rattle.saa_word_proofs.specs.StepRefinement.{named_at, place_after, row_after}
 use Rattle.saa_word_proofs.specs.History.{named, of_place}
 use Rattle.saa_word_proofs.specs.Calls.{asked_by}
-use Rattle.saa_word_proofs.specs.Promises.{IsAtRest, Observes, idle_place}
+use Rattle.saa_word_proofs.specs.Promises.{WordsAreQuiescent, WordsShow, idle_place}
 use Rattle.saa_word_proofs.proofs.SoloLemmas.Quiet.{at-rest}
 use Rattle.saa_word_proofs.proofs.RefinementLemmas.Lists.{all-same, updated-at, updated-same}
 use Rattle.saa_word_proofs.proofs.RefinementLemmas.Calls.{under-next}
@@ -50,8 +50,8 @@ use Rattle.saa_word.specs.declared.moves.Step.TheVariants.{Idle, Busy, Done}
 use Rattle.saa_word.specs.Machine.{IsMove, IsOneStep, State, is_lock, opened, place_in, place_of, row_of}
 use Rattle.saa_word.specs.Tracks.{IsFresh, IsIn, RefinesAs, Tracks}
 use Rattle.saa_word.specs.Moves.{found_by, gone, is_quiet, operation_at, followed, step_of, worked_at}
-use Rattle.saa_word.specs.Trace.{beginning, IsQuiescent, Trace, Underway}
-use Rattle.saa_word.specs.Simulation.{Conserves, IsRight, IsSilent, IsWaiting, Simulates, WaitsRightly, asked_in, call_after, holder_after, holds_after, made_after, mine_after, mover, registered_after, started_step, trace_after}
+use Rattle.saa_word.specs.Trace.{beginning, IsQuiescent, Trace, PendingCall}
+use Rattle.saa_word.specs.Simulation.{Conserves, AnswersAsNamed, IsSilent, IsWaiting, Simulates, WaitsRightly, asked_in, call_after, holder_after, holds_after, made_after, mine_after, mover, registered_after, started_step, trace_after}
 use Rattle.saa_word.proofs.Holding.{held-after, held-same, not-false}
 use Rattle.saa_word.proofs.Keeping.{begun-exact, worked-exact, opened-sized, opened-stands, other-place, quiet-stage, replicated, set-updated, work-stands, work-sized, start-stands, start-sized}
 use Rattle.saa_word.proofs.Seeking.{fresh-begun, fresh-next, seeks-on}
@@ -78,19 +78,19 @@ conserves state trace run bound rules =
     }
 
 -- the call that a place is in behind its step
-in-next : (needs : Needs) (registered : Registration) (holds : Bool) (underway : Option Underway) (me : ℕ) (place : Place) (events : List Event) (next : Next)
+in-next : (needs : Needs) (registered : Registration) (holds : Bool) (underway : Option PendingCall) (me : ℕ) (place : Place) (events : List Event) (next : Next)
     → IsIn needs underway place → is_quiet place.stage ≡ false
-    → ((u : Underway) → underway ≡ Some u → IsUnderNext needs u.call u.registered place.back place.stage (u.events ++ events) next)
+    → ((u : PendingCall) → underway ≡ Some u → IsUnderNext needs u.call u.registered place.back place.stage (u.events ++ events) next)
     → ((behind : Place) (answer : Answer) → next ≡ IsDone behind answer → behind.stage ≡ Quiet)
     → IsIn needs (call_after registered holds underway (Go me) events (step_of next)) (place_after place next)
-    × IsRight needs registered underway (Go me) events (step_of next)
+    × AnswersAsNamed needs registered underway (Go me) events (step_of next)
 in-next needs registered holds None me place events next is busy under quiet = absurd (not-quiet place.stage busy is)
 in-next needs registered holds (Some underway) me place events (GoesOn behind) is busy under quiet = (under underway refl, tt)
 in-next needs registered holds (Some underway) me place events HasToWait is busy under quiet = (is, tt)
 in-next needs registered holds (Some underway) me place events (IsDone behind answer) is busy under quiet = (quiet behind answer refl, under underway refl)
 
 -- and behind its start
-in-begun : (needs : Needs) (holds : Bool) (underway : Option Underway) (me : ℕ) (call : WordCall) (place : Place) (next : Next) → IsIn needs underway place
+in-begun : (needs : Needs) (holds : Bool) (underway : Option PendingCall) (me : ℕ) (call : WordCall) (place : Place) (next : Next) → IsIn needs underway place
     → IsBegun needs call place.registration next → place.stage ≡ Quiet
     → IsIn needs (call_after place.registration holds underway (Start me call) [] (step_of next)) (place_after place next)
 in-begun needs holds underway me call place (GoesOn behind) is begun quiet = begun
@@ -100,7 +100,7 @@ in-begun needs holds (Some underway) me call place (IsDone behind answer) is beg
     absurd (subst (λ stage. IsUnder needs underway.call underway.registered place.back stage underway.events) quiet is)
 
 -- what a trace says of the calls that places are in, it says still once one of them moved
-calls-next : (Says : Option Underway → Place → Type 0) (places : List Place) (calls : ℕ → Option Underway) (me : ℕ) (place : Place) (underway : Option Underway)
+calls-next : (Says : Option PendingCall → Place → Type 0) (places : List Place) (calls : ℕ → Option PendingCall) (me : ℕ) (place : Place) (underway : Option PendingCall)
     → me < length places → ((other : ℕ) → Says (calls other) (place_in places other)) → Says underway place
     → (other : ℕ) → Says (updated calls me underway other) (place_in (set places me place) other)
 calls-next Says places calls me place underway here was is other =
@@ -135,7 +135,7 @@ left-quiet was now (IsDone place other) left behind answer is =
     let same : place ≡ behind = cc in ap (λ (p : Place). p.stage) (sym same) ∙ left.1
 
 -- what the step of a call leaves its place registered as
-step-left : (needs : Needs) (underway : Option Underway) (me : ℕ) (place : Place) (found : ℕ) (events : List Event) → IsIn needs underway place
+step-left : (needs : Needs) (underway : Option PendingCall) (me : ℕ) (place : Place) (found : ℕ) (events : List Event) → IsIn needs underway place
     → is_quiet place.stage ≡ false → events ≡ named_at needs place.stage found
     → IsLeft place.registration (registration_after events (asked_in underway) place.registration) (next_of needs me place place.stage found)
 step-left needs None me place found events is busy names = absurd (not-quiet place.stage busy is)
@@ -160,7 +160,7 @@ started-answers (Some answer) now (GoesOn behind) is = absurd is
 started-answers (Some answer) now HasToWait is = absurd is
 started-answers (Some answer) now (IsDone behind said) is = ap Done is.0
 
-begun-registered : (underway : Option Underway) (me : ℕ) (call : WordCall) (events : List Event) (was : Registration) (next : Next)
+begun-registered : (underway : Option PendingCall) (me : ℕ) (call : WordCall) (events : List Event) (was : Registration) (next : Next)
     → registered_after underway (Start me call) events (step_of next) was ≡ registration_after_start call was
 begun-registered underway me call events was (GoesOn behind) = refl
 begun-registered underway me call events was HasToWait = refl
@@ -198,17 +198,17 @@ owes-nothing : (state : State) (trace : Trace) → Tracks state trace → (place
 owes-nothing state trace tracks place none other due mine =
     let s = tracks.refines in
     let quiet : (place_of state place).stage ≡ Quiet =
-    subst (λ (underway : Option Underway). IsIn (needs_of state.rules) underway (place_of state place)) none (tracks.calls place) in
+    subst (λ (underway : Option PendingCall). IsIn (needs_of state.rules) underway (place_of state place)) none (tracks.calls place) in
     let nothing : s.owed place ≡ [] = subst (λ (stage : Stage). IsShowing (s.owed place) (s.answer_value place) stage) quiet (s.stages.showing place) in
     let there : is_in other (s.owed (trace.state.granter other)) ≡ true = s.debts.paid_by other due in
     let wrong : true ≡ false = sym there ∙ ap (λ (n : ℕ). is_in other (s.owed n)) mine ∙ ap (is_in other) nothing in
     absurd (cc)
 
 -- While no place is in a call all is at rest
-pub rests : (state : State) (trace : Trace) → Tracks state trace → IsQuiescent trace → IsAtRest (needs_of state.rules) (row_of state) trace.state
+pub rests : (state : State) (trace : Trace) → Tracks state trace → IsQuiescent trace → WordsAreQuiescent (needs_of state.rules) (row_of state) trace.state
 rests state trace tracks quiescent =
     at-rest (needs_of state.rules) (length state.places) (row_of state) (place_of state) trace.state tracks.refines
-    (λ place. subst (λ (u : Option Underway). IsIn (needs_of state.rules) u (place_of state place)) (quiescent place) (tracks.calls place))
+    (λ place. subst (λ (u : Option PendingCall). IsIn (needs_of state.rules) u (place_of state place)) (quiescent place) (tracks.calls place))
 
 -- A Go of a place in a call
 pub went : (state : State) (trace : Trace) (me : ℕ) → me < length state.places → Tracks state trace → is_quiet (place_of state me).stage ≡ false
@@ -230,7 +230,7 @@ went state trace me here tracks busy =
     let holds : Bool = holds_after state (Go me) (worked_at state me) trace in
     let goes = in-next needs (trace.registered me) holds (trace.calls me) me place (named events) next (tracks.calls me) busy
     (λ u is. subst (λ (l : List Event). IsUnderNext needs u.call u.registered place.back place.stage (u.events ++ l) next) (sym stepped.names)
-    (under-next needs u.call u.registered me place place.stage found u.events (subst (λ (o : Option Underway). IsIn needs o place) is (tracks.calls me))))
+    (under-next needs u.call u.registered me place place.stage found u.events (subst (λ (o : Option PendingCall). IsIn needs o place) is (tracks.calls me))))
     (left-quiet place.registration (registration_after (named events) (asked_in (trace.calls me)) place.registration) next left) in
     let row_is : row_of machine ≡ row_after (row_of state) operation =
     set-updated state.row (word_at operation) (written_by operation found) 0 (omega (arith, stepped.inside, tracks.sized.words)) in
@@ -253,8 +253,8 @@ went state trace me here tracks busy =
     λ other differs. ap (λ (f : ℕ → Place). f other) place_is ∙ other-place (place_of state) me other (place_after place next) differs in
     let run : IsRun needs (opening trace.withheld) (trace.history ++ of_place me events) stepped.last =
     run-append needs (opening trace.withheld) trace.state stepped.last trace.history (of_place me events) tracks.run stepped.run in
-    let shown : Observes needs (length state.places) (row_of machine) stepped.last =
-    subst (λ n. Observes needs n (row_of machine) stepped.last) (length-set state.places me (place_after place next))
+    let shown : WordsShow needs (length state.places) (row_of machine) stepped.last =
+    subst (λ n. WordsShow needs n (row_of machine) stepped.last) (length-set state.places me (place_after place next))
     (says-so needs (length machine.places) (row_of machine) (place_of machine) stepped.last refines) in
     let registered : (other : ℕ) → (place_of machine other).registration
     ≡ updated trace.registered me (registration_after (named events) (asked_in (trace.calls me)) (trace.registered me)) other =
@@ -262,7 +262,7 @@ went state trace me here tracks busy =
     (registration_after (named events) (asked_in (trace.calls me)) (trace.registered me)) here tracks.registered
     (left-after place.registration (registration_after (named events) (asked_in (trace.calls me)) place.registration) place next refl left
     ∙ ap (registration_after (named events) (asked_in (trace.calls me))) (tracks.registered me)) in
-    let shown_before : Observes needs (length state.places) (row_of state) trace.state =
+    let shown_before : WordsShow needs (length state.places) (row_of state) trace.state =
     says-so needs (length state.places) (row_of state) (place_of state) trace.state tracks.refines in
     let after : Trace = trace_after state (Go me) (worked_at state me) trace events stepped.last in
     let holder : refines.holder ≡ after.holder =
@@ -349,8 +349,8 @@ begun state trace me call here taken tracks quiet =
     λ other differs. ap (λ (f : ℕ → Place). f other) place_is ∙ other-place (place_of state) me other behind differs in
     let run : IsRun needs (opening trace.withheld) (trace.history ++ []) trace.state =
     subst (λ (h : List (ℕ × Event)). IsRun needs (opening trace.withheld) h trace.state) (sym (append-nil trace.history)) tracks.run in
-    let shown : Observes needs (length state.places) (row_of state) trace.state =
-    subst (λ n. Observes needs n (row_of state) trace.state) (length-set state.places me behind)
+    let shown : WordsShow needs (length state.places) (row_of state) trace.state =
+    subst (λ n. WordsShow needs n (row_of state) trace.state) (length-set state.places me behind)
     (says-so needs (length after.places) (row_of state) (place_of after) trace.state refines) in
     let registered : (other : ℕ) → (place_of after other).registration
     ≡ updated trace.registered me (registered_after (trace.calls me) (Start me call) [] (step_of next) (trace.registered me)) other =
@@ -401,19 +401,19 @@ begun state trace me call here taken tracks quiet =
       tracks = then;
     })
   where
-    start-right : (needs : Needs) (registered : Registration) (underway : Option Underway) (me : ℕ) (call : WordCall) (place : Place) (next : Next)
+    start-right : (needs : Needs) (registered : Registration) (underway : Option PendingCall) (me : ℕ) (call : WordCall) (place : Place) (next : Next)
         → IsIn needs underway place → place.stage ≡ Quiet → step_of next ≡ started_step (starting_answer needs call registered)
-        → IsRight needs registered underway (Start me call) [] (step_of next)
+        → AnswersAsNamed needs registered underway (Start me call) [] (step_of next)
     start-right needs registered None me call place next is none same = same
     start-right needs registered (Some underway) me call place next is none same =
         absurd (subst (λ stage. IsUnder needs underway.call underway.registered place.back stage underway.events) none is)
 
 -- a move that does nothing leaves its trace
 pub idled : (state : State) (trace : Trace) (move : Move) (step : Step)
-    → ((registered : Registration) (holds : Bool) (underway : Option Underway) → call_after registered holds underway move [] step ≡ underway)
-    → ((underway : Option Underway) (was : Registration) → registered_after underway move [] step was ≡ was)
+    → ((registered : Registration) (holds : Bool) (underway : Option PendingCall) → call_after registered holds underway move [] step ≡ underway)
+    → ((underway : Option PendingCall) (was : Registration) → registered_after underway move [] step was ≡ was)
     → ((made : ℕ) → mine_after made move step ≡ made) → IsOneStep move step state state
-    → IsSilent move step [] → IsRight (needs_of state.rules) (trace.registered (mover move)) (trace.calls (mover move)) move [] step
+    → IsSilent move step [] → AnswersAsNamed (needs_of state.rules) (trace.registered (mover move)) (trace.calls (mover move)) move [] step
     → WaitsRightly state state trace move step
     → Tracks state trace → Simulates state move (record { step = step; machine = state }) trace
 idled state trace move step calls registered made exact silent right waits tracks =
@@ -436,7 +436,7 @@ idled state trace move step calls registered made exact silent right waits track
       tracks = subst (λ (t : Trace). Tracks state t) (sym trace_is) tracks;
     }
   where
-    shown : Observes (needs_of state.rules) (length state.places) (row_of state) trace.state
+    shown : WordsShow (needs_of state.rules) (length state.places) (row_of state) trace.state
     shown = says-so (needs_of state.rules) (length state.places) (row_of state) (place_of state) trace.state tracks.refines
 
     run : IsRun (needs_of state.rules) (opening trace.withheld) (trace.history ++ []) trace.state
@@ -452,7 +452,7 @@ idled state trace move step calls registered made exact silent right waits track
     holds : Bool
     holds = holds_after state move (record { step = step; machine = state }) trace
 
-    mine : Option Underway
+    mine : Option PendingCall
     mine = call_after (trace.registered (mover move)) holds (trace.calls (mover move)) move [] step
 
     calls_is : updated trace.calls (mover move) mine ≡ trace.calls
@@ -490,13 +490,13 @@ simulates state (Start me call) trace is tracks =
           (start-busy (trace.registered me) (trace.calls me) me call (tracks.calls me) busy) tt tracks)
     ]
   where
-    start-kept : (me : ℕ) (call : WordCall) (registered : Registration) (holds : Bool) (underway : Option Underway)
+    start-kept : (me : ℕ) (call : WordCall) (registered : Registration) (holds : Bool) (underway : Option PendingCall)
         → call_after registered holds underway (Start me call) [] Busy ≡ underway
     start-kept me call registered holds None = refl
     start-kept me call registered holds (Some underway) = refl
 
-    start-busy : (registered : Registration) (underway : Option Underway) (me : ℕ) (call : WordCall) → IsIn (needs_of state.rules) underway (place_of state me)
-        → is_quiet (place_of state me).stage ≡ false → IsRight (needs_of state.rules) registered underway (Start me call) [] Busy
+    start-busy : (registered : Registration) (underway : Option PendingCall) (me : ℕ) (call : WordCall) → IsIn (needs_of state.rules) underway (place_of state me)
+        → is_quiet (place_of state me).stage ≡ false → AnswersAsNamed (needs_of state.rules) registered underway (Start me call) [] Busy
     start-busy registered None me call is busy = absurd (not-quiet (place_of state me).stage busy is)
     start-busy registered (Some underway) me call is busy = refl
 simulates state (Go me) trace is tracks =
@@ -506,12 +506,12 @@ simulates state (Go me) trace is tracks =
       | inr busy ↦ rw busy (went state trace me is tracks busy)
     ]
   where
-    go-kept : (me : ℕ) (registered : Registration) (holds : Bool) (underway : Option Underway) → call_after registered holds underway (Go me) [] Idle ≡ underway
+    go-kept : (me : ℕ) (registered : Registration) (holds : Bool) (underway : Option PendingCall) → call_after registered holds underway (Go me) [] Idle ≡ underway
     go-kept me registered holds None = refl
     go-kept me registered holds (Some underway) = refl
 
-    go-idle : (registered : Registration) (underway : Option Underway) (me : ℕ) → IsIn (needs_of state.rules) underway (place_of state me)
-        → (place_of state me).stage ≡ Quiet → IsRight (needs_of state.rules) registered underway (Go me) [] Idle
+    go-idle : (registered : Registration) (underway : Option PendingCall) (me : ℕ) → IsIn (needs_of state.rules) underway (place_of state me)
+        → (place_of state me).stage ≡ Quiet → AnswersAsNamed (needs_of state.rules) registered underway (Go me) [] Idle
     go-idle registered None me is quiet = refl
     go-idle registered (Some underway) me is quiet =
         absurd (subst (λ stage. IsUnder (needs_of state.rules) underway.call underway.registered (place_of state me).back stage underway.events) quiet is)

@@ -7,10 +7,10 @@ use Rattle.saa_word_steps.specs.declared.place.Place.{Place}
 use Rattle.saa_word_steps.specs.declared.place.Next.{Next}
 use Rattle.saa_word_steps.specs.declared.place.Next.TheVariants.{Waits as HasToWait}
 use Rattle.saa_word_steps.specs.declared.place.Stage.{Stage}
-use Rattle.saa_word_steps.specs.declared.place.Stage.TheVariants.{Quiet, ReadLoad, AskLoad, AskExchange, Prepare, Join, ReleaseLoad, ReleaseExchange, BackLoad, BackStore, Forward, CutToClose, CutToGoRound, Close, Empty, GoRound, ShowLoad, ShowStore, Take, FlagLoad, FlagExchange, LookLoad, LookStore, Unlink, DropTail, PoisonLoad, PoisonExchange, Clear}
-use Rattle.saa_word_steps.specs.declared.place.Taking.TheVariants.{Tries, Awaits, Gives}
-use Rattle.saa_word_steps.specs.declared.place.Back.{Back}
-use Rattle.saa_word_steps.specs.declared.place.Back.TheVariants.{Tells as TellsLine, Ends, Takes}
+use Rattle.saa_word_steps.specs.declared.place.Stage.TheVariants.{Quiet, ReadLoad, AcquireLoad, AcquireExchange, Prepare, Join, ReleaseLoad, ReleaseExchange, BackLoad, BackStore, Forward, CutToClose, CutForRetry, Close, Empty, Retry, ShowLoad, ShowStore, Take, FlagLoad, FlagExchange, LookLoad, LookStore, Unlink, DropTail, PoisonLoad, PoisonExchange, Clear}
+use Rattle.saa_word_steps.specs.declared.place.PollMode.TheVariants.{Tries, Awaits, Gives}
+use Rattle.saa_word_steps.specs.declared.place.AfterWalk.{AfterWalk}
+use Rattle.saa_word_steps.specs.declared.place.AfterWalk.TheVariants.{Tells as TellsLine, Ends, Takes}
 use Rattle.saa_word_steps.specs.declared.place.Registration.{Registration}
 use Rattle.saa_core_words.specs.declared.word.Word.{Word}
 use Rattle.saa_word_steps.specs.Needs.{Needs, needs_of}
@@ -18,7 +18,7 @@ use Rattle.saa_word_steps.specs.declared.event.Event.{Event}
 use Rattle.saa_word_steps.specs.AbstractState.{AbstractState, is_in}
 use Rattle.saa_core_spec.proofs.Counts.{number_same}
 use Rattle.saa_word_steps.specs.Steps.{next_of, operation_of, word_at, written_by}
-use Rattle.saa_word_proofs.specs.Refinement.{IsAlone, IsLeaving, IsShowing, is_holder}
+use Rattle.saa_word_proofs.specs.Refinement.{IsLocallyTrue, IsLeaving, IsShowing, is_holder}
 use Rattle.saa_word_proofs.specs.Registering.{is_slot}
 use Rattle.saa_word_proofs.specs.Rows.{main_of}
 use Rattle.saa_word_proofs.specs.StepRefinement.{place_after}
@@ -31,7 +31,7 @@ use Rattle.saa_word_proofs.proofs.RefinementLemmas.Polls.{only-stalls}
 use Rattle.std.proofs.lemmas.List.{set-get_or}
 use Rattle.saa_word.specs.Machine.{State, place_of, row_of}
 use Rattle.saa_word.specs.Moves.{found_by, is_quiet, operation_at, worked_at}
-use Rattle.saa_word.specs.Trace.{Trace, Underway}
+use Rattle.saa_word.specs.Trace.{Trace, PendingCall}
 use Rattle.saa_word.specs.Tracks.{IsFresh, IsIn, Tracks, seeks_flag}
 use Rattle.saa_word.specs.Simulation.{IsBlocked, IsHeldByAnother, IsWaiting}
 use Rattle.saa_word.proofs.Holding.{not-true}
@@ -63,30 +63,30 @@ awaits-polls Poll is = refl
 awaits-polls Cancel is = absurd (cc)
 
 -- a call that is to leave the line cancels
-leaves-cancels : (call : WordCall) (registered : Registration) (back : Back) (events : List Event) → IsLeavingLine call registered back events → call ≡ Cancel
+leaves-cancels : (call : WordCall) (registered : Registration) (back : AfterWalk) (events : List Event) → IsLeavingLine call registered back events → call ≡ Cancel
 leaves-cancels call registered TellsLine events leaves = absurd leaves
 leaves-cancels call registered Ends events leaves = absurd leaves
 leaves-cancels call registered (Takes request) events leaves = leaves.0
 
 -- a call that is to leave the line is registered in it
-leaving-slot : (registration : Registration) (back : Back) → IsLeaving registration back → is_slot registration ≡ true
+leaving-slot : (registration : Registration) (back : AfterWalk) → IsLeaving registration back → is_slot registration ≡ true
 leaving-slot registration TellsLine leaves = absurd leaves
 leaving-slot registration Ends leaves = absurd leaves
 leaving-slot registration (Takes request) leaves = ap is_slot leaves
 
 -- What is known where a place waits: another one holds the flag where it is set, and what the place is registered as is the trace's
-record Moment (trace : Trace) (me : ℕ) (seen : Word) (registration : Registration) : Type 0 where
+record Configuration (trace : Trace) (me : ℕ) (seen : Word) (registration : Registration) : Type 0 where
   held : seen.is_flagged ≡ true → IsHeldByAnother trace me
   registered : registration ≡ trace.registered me
 
 -- the call of a place that waits at its stage is blocked
-held-up : (needs : Needs) (trace : Trace) (places me : ℕ) (seen : Word) (registration : Registration) (m : Moment trace me seen registration) (call : WordCall) (registered : Registration) (back : Back) (stage : Stage) (events : List Event)
-    → IsUnder needs call registered back stage events → IsAlone needs registration back stage → IsBlockedAt trace.state me seen stage → (held : Bool) → (seeks_flag stage ≡ true → held ≡ false)
+held-up : (needs : Needs) (trace : Trace) (places me : ℕ) (seen : Word) (registration : Registration) (m : Configuration trace me seen registration) (call : WordCall) (registered : Registration) (back : AfterWalk) (stage : Stage) (events : List Event)
+    → IsUnder needs call registered back stage events → IsLocallyTrue needs registration back stage → IsBlockedAt trace.state me seen stage → (held : Bool) → (seeks_flag stage ≡ true → held ≡ false)
     → IsBlocked trace places me seen (word_at (operation_of needs places me stage)) held call
 held-up needs trace places me seen registration m call registered back Quiet events under alone stalled held fresh = absurd stalled
 held-up needs trace places me seen registration m call registered back (ReadLoad reading) events under alone stalled held fresh = absurd stalled
-held-up needs trace places me seen registration m call registered back (AskLoad ask) events under alone stalled held fresh = absurd stalled
-held-up needs trace places me seen registration m call registered back (AskExchange ask old) events under alone stalled held fresh = absurd stalled
+held-up needs trace places me seen registration m call registered back (AcquireLoad ask) events under alone stalled held fresh = absurd stalled
+held-up needs trace places me seen registration m call registered back (AcquireExchange ask old) events under alone stalled held fresh = absurd stalled
 held-up needs trace places me seen registration m call registered back (Prepare request old) events under alone stalled held fresh = absurd stalled
 held-up needs trace places me seen registration m call registered back (Join request old) events under alone stalled held fresh = absurd stalled
 held-up needs trace places me seen registration m call registered back (ReleaseLoad given) events under alone stalled held fresh = absurd stalled
@@ -95,10 +95,10 @@ held-up needs trace places me seen registration m call registered back (BackLoad
 held-up needs trace places me seen registration m call registered back (BackStore old current newer line) events under alone stalled held fresh = absurd stalled
 held-up needs trace places me seen registration m call registered back (Forward old current count) events under alone stalled held fresh = absurd stalled
 held-up needs trace places me seen registration m call registered back (CutToClose old current count line) events under alone stalled held fresh = absurd stalled
-held-up needs trace places me seen registration m call registered back (CutToGoRound old current count line) events under alone stalled held fresh = absurd stalled
+held-up needs trace places me seen registration m call registered back (CutForRetry old current count line) events under alone stalled held fresh = absurd stalled
 held-up needs trace places me seen registration m call registered back (Close old count top) events under alone stalled held fresh = absurd stalled
 held-up needs trace places me seen registration m call registered back (Empty old current count line) events under alone stalled held fresh = absurd stalled
-held-up needs trace places me seen registration m call registered back (GoRound old count top) events under alone stalled held fresh = absurd stalled
+held-up needs trace places me seen registration m call registered back (Retry old count top) events under alone stalled held fresh = absurd stalled
 held-up needs trace places me seen registration m call registered back (ShowLoad current value afterwards) events under alone stalled held fresh = absurd stalled
 held-up needs trace places me seen registration m call registered back (ShowStore current next value afterwards) events under alone stalled held fresh = absurd stalled
 held-up needs trace places me seen registration m call registered back (Take Tries) events under alone stalled held fresh = absurd stalled
@@ -123,12 +123,12 @@ held-up needs trace places me seen registration m call registered back (PoisonEx
     subst (λ (c : WordCall). IsBlocked trace places me seen 0 held c) (sym under.0) (refl, stalled, m.held stalled.2, fresh refl)
 
 -- the call of a place that waits at its stage has named nothing yet
-none-leaving : (call : WordCall) (registered : Registration) (back : Back) (events : List Event) → IsLeavingLine call registered back events → events ≡ []
+none-leaving : (call : WordCall) (registered : Registration) (back : AfterWalk) (events : List Event) → IsLeavingLine call registered back events → events ≡ []
 none-leaving call registered TellsLine events leaves = absurd leaves
 none-leaving call registered Ends events leaves = absurd leaves
 none-leaving call registered (Takes request) events leaves = leaves.2
 
-none-named : (needs : Needs) (abstract : AbstractState) (me : ℕ) (seen : Word) (call : WordCall) (registered : Registration) (back : Back) (stage : Stage) (events : List Event)
+none-named : (needs : Needs) (abstract : AbstractState) (me : ℕ) (seen : Word) (call : WordCall) (registered : Registration) (back : AfterWalk) (stage : Stage) (events : List Event)
     → IsUnder needs call registered back stage events → IsBlockedAt abstract me seen stage → events ≡ []
 none-named needs abstract me seen call registered back (Take Tries) events under stalled = absurd stalled
 none-named needs abstract me seen call registered back (Take Awaits) events under stalled = under.1
@@ -140,10 +140,10 @@ none-named needs abstract me seen call registered back (PoisonExchange old) even
 none-named needs abstract me seen call registered back stage events under stalled = absurd stalled
 
 -- and it is in a call
-held-in : (needs : Needs) (trace : Trace) (places me : ℕ) (seen : Word) (underway : Option Underway) (place : Place) → Moment trace me seen place.registration
-    → IsIn needs underway place → IsFresh underway place.stage → is_quiet place.stage ≡ false → IsAlone needs place.registration place.back place.stage
+held-in : (needs : Needs) (trace : Trace) (places me : ℕ) (seen : Word) (underway : Option PendingCall) (place : Place) → Configuration trace me seen place.registration
+    → IsIn needs underway place → IsFresh underway place.stage → is_quiet place.stage ≡ false → IsLocallyTrue needs place.registration place.back place.stage
     → IsBlockedAt trace.state me seen place.stage
-    → (u : Underway) × (underway ≡ Some u) × (u.events ≡ []) × IsBlocked trace places me seen (word_at (operation_of needs places me place.stage)) u.held u.call
+    → (u : PendingCall) × (underway ≡ Some u) × (u.events ≡ []) × IsBlocked trace places me seen (word_at (operation_of needs places me place.stage)) u.held u.call
 held-in needs trace places me seen None place m is fresh busy alone stalled = absurd (not-quiet place.stage busy is)
 held-in needs trace places me seen (Some underway) place m is fresh busy alone stalled = (
   underway,
@@ -156,8 +156,8 @@ held-in needs trace places me seen (Some underway) place m is fresh busy alone s
 waits-free : (abstract : AbstractState) (me : ℕ) (seen : Word) (stage : Stage) → IsBlockedAt abstract me seen stage → is_holder stage ≡ false
 waits-free abstract me seen Quiet stalled = refl
 waits-free abstract me seen (ReadLoad reading) stalled = refl
-waits-free abstract me seen (AskLoad ask) stalled = refl
-waits-free abstract me seen (AskExchange ask old) stalled = refl
+waits-free abstract me seen (AcquireLoad ask) stalled = refl
+waits-free abstract me seen (AcquireExchange ask old) stalled = refl
 waits-free abstract me seen (Prepare request old) stalled = refl
 waits-free abstract me seen (Join request old) stalled = refl
 waits-free abstract me seen (ReleaseLoad given) stalled = refl

@@ -14,7 +14,7 @@ use Rattle.saa_core_words.specs.declared.word.Word.{Word}
 use Rattle.saa_word_proofs.specs.Rows.{IsOwnedAndFlagged, main_of, updated}
 use Rattle.saa_word_proofs.specs.Calls.{IsAnswered, asked_by}
 use Rattle.saa_word_proofs.specs.History.{LeadsTo, named, of_place}
-use Rattle.saa_word_proofs.specs.Promises.{IsAtRest, Observes}
+use Rattle.saa_word_proofs.specs.Promises.{WordsAreQuiescent, WordsShow}
 use Rattle.saa_word_proofs.specs.Conservation.{AreOfPermits, ConservesPermits, tally_of}
 use Rattle.saa_word_proofs.specs.Registering.{registration_after_start, is_slot, registration_after, starting_answer}
 use Rattle.saa_word.specs.declared.moves.Move.{Move}
@@ -22,7 +22,7 @@ use Rattle.saa_word.specs.declared.moves.Move.TheVariants.{Start, Go}
 use Rattle.saa_word.specs.declared.moves.Step.{Step}
 use Rattle.saa_word.specs.declared.moves.Step.TheVariants.{Idle, Busy, Going, Waits, Done}
 use Rattle.saa_word.specs.Machine.{IsOneStep, Moved, State, row_of}
-use Rattle.saa_word.specs.Trace.{IsQuiescent, Trace, Underway}
+use Rattle.saa_word.specs.Trace.{IsQuiescent, Trace, PendingCall}
 use Rattle.saa_word.specs.Tracks.{Tracks}
 
 -- the place that moves
@@ -31,12 +31,12 @@ mover (Start me call) = me
 mover (Go me) = me
 
 -- what the call that a place is in asks for
-abbrev pub asked_in : Option Underway → Option Ask
+abbrev pub asked_in : Option PendingCall → Option Ask
 asked_in None = None
 asked_in (Some underway) = asked_by underway.call
 
 -- what the mover is registered as behind a move that named these events
-abbrev pub registered_after : Option Underway → Move → List Event → Step → Registration → Registration
+abbrev pub registered_after : Option PendingCall → Move → List Event → Step → Registration → Registration
 registered_after underway (Start me call) events Busy was = was
 registered_after underway (Start me call) events step was = registration_after_start call was
 registered_after underway (Go me) events step was = registration_after events (asked_in underway) was
@@ -51,7 +51,7 @@ holds_after state move moved trace =
     holder_after trace.holder (mover move) (main_of (row_of state)) (main_of (row_of moved.machine)) == mover move + 1
 
 -- the call that the mover, registered so, is in behind a move that named these events, and behind which it holds the flag or not
-abbrev pub call_after : Registration → (holds : Bool) → Option Underway → Move → List Event → Step → Option Underway
+abbrev pub call_after : Registration → (holds : Bool) → Option PendingCall → Move → List Event → Step → Option PendingCall
 call_after registered holds underway (Start me call) events Going =
     Some (record { call = call; registered = registered; events = []; held = false })
 call_after registered holds (Some underway) (Go me) events Going =
@@ -99,15 +99,15 @@ started_step (Some answer) = Done answer
 
 -- A step is the one that the call of the mover and its events name. A Start is busy exactly in a call, and else answers by what the place is
 -- registered as; a Go is idle exactly in no call, and an answer is the one that the call's events name
-abbrev pub IsRight : Needs → Registration → Option Underway → Move → List Event → Step → Type 0
-IsRight needs registered None (Start me call) events step = step ≡ started_step (starting_answer needs call registered)
-IsRight needs registered (Some underway) (Start me call) events step = step ≡ Busy
-IsRight needs registered None (Go me) events step = step ≡ Idle
-IsRight needs registered (Some underway) (Go me) events Idle = ⊥
-IsRight needs registered (Some underway) (Go me) events Busy = ⊥
-IsRight needs registered (Some underway) (Go me) events (Done answer) =
+abbrev pub AnswersAsNamed : Needs → Registration → Option PendingCall → Move → List Event → Step → Type 0
+AnswersAsNamed needs registered None (Start me call) events step = step ≡ started_step (starting_answer needs call registered)
+AnswersAsNamed needs registered (Some underway) (Start me call) events step = step ≡ Busy
+AnswersAsNamed needs registered None (Go me) events step = step ≡ Idle
+AnswersAsNamed needs registered (Some underway) (Go me) events Idle = ⊥
+AnswersAsNamed needs registered (Some underway) (Go me) events Busy = ⊥
+AnswersAsNamed needs registered (Some underway) (Go me) events (Done answer) =
     IsAnswered needs underway.call underway.registered (underway.events ++ events) answer
-IsRight needs registered (Some underway) (Go me) events step = Unit {0}
+AnswersAsNamed needs registered (Some underway) (Go me) events step = Unit {0}
 
 -- another place holds the flag
 abbrev pub IsHeldByAnother : Trace → ℕ → Type 0
@@ -128,7 +128,7 @@ IsBlocked trace places me seen read held _ = ⊥
 -- A place that waits is in a call that is blocked and has named no event yet: it waits no more once its call has left the line, taken its answer or
 -- poisoned the lock. It doesn't hold the flag, it has shown each answer that it granted, and words and places are as they were
 pub record IsWaiting (state after : State) (trace : Trace) (me : ℕ) : Type 0 where
-  pub blocked : (underway : Underway) × (trace.calls me ≡ Some underway) × (underway.events ≡ [])
+  pub blocked : (underway : PendingCall) × (trace.calls me ≡ Some underway) × (underway.events ≡ [])
       × IsBlocked trace (length state.places) me (main_of (row_of state)) after.last_word underway.held underway.call
   pub free : trace.holder ≢ me + 1
   pub clear : OwesNothing me trace.state
@@ -164,14 +164,14 @@ pub record Simulates (state : State) (move : Move) (moved : Moved) (trace : Trac
   pub last : AbstractState
   pub run : IsRun (needs_of state.rules) trace.state (of_place (mover move) events) last
   pub silent : IsSilent move moved.step events
-  pub answers : IsRight (needs_of state.rules) (trace.registered (mover move)) (trace.calls (mover move)) move (named events) moved.step
+  pub answers : AnswersAsNamed (needs_of state.rules) (trace.registered (mover move)) (trace.calls (mover move)) move (named events) moved.step
   pub waits : WaitsRightly state moved.machine trace move moved.step
-  pub words : Observes (needs_of state.rules) (length state.places) (row_of moved.machine) last
+  pub words : WordsShow (needs_of state.rules) (length state.places) (row_of moved.machine) last
   pub leads : LeadsTo (needs_of state.rules) (length state.places) trace.withheld (trace.history ++ of_place (mover move) events) (row_of moved.machine)
   pub conserved : Conserves state (trace_after state move moved trace events last)
   pub few : (place : ℕ) → (trace_after state move moved trace events last).made place ≤ 16 * length state.places + 48
   pub shown : (place : ℕ) → (trace_after state move moved trace events last).calls place ≡ None → OwesNothing place last
-  pub quiet : IsQuiescent (trace_after state move moved trace events last) → IsAtRest (needs_of state.rules) (row_of moved.machine) last
+  pub quiet : IsQuiescent (trace_after state move moved trace events last) → WordsAreQuiescent (needs_of state.rules) (row_of moved.machine) last
   pub tracks : Tracks moved.machine (trace_after state move moved trace events last)
 
 -- Each of a list of moves simulates, in order: from a machine and its trace they lead, by these answers and these events, to a machine and its trace

@@ -8,7 +8,7 @@ use Rattle.saa_word_steps.specs.AbstractState.{AbstractState, opening}
 
 -- a call that a place is in, what the place was registered as when it started, what it has named of the events so far, and whether the place has
 -- held the flag since it started
-pub record Underway : Type 0 where
+pub record PendingCall : Type 0 where
   pub call : WordCall
   pub registered : Registration
   pub events : List Event
@@ -23,7 +23,7 @@ pub record Trace : Type 0 where
   pub state : AbstractState
   pub registered : ℕ → Registration
   pub holder : ℕ
-  pub calls : ℕ → Option Underway
+  pub calls : ℕ → Option PendingCall
   pub made : ℕ → ℕ
 
 -- no place is in a call

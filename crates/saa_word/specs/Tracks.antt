@@ -9,15 +9,15 @@ use Rattle.saa_word_steps.specs.declared.place.Stage.TheVariants.{Quiet, FlagLoa
 use Rattle.saa_word_steps.specs.Needs.{Needs, needs_of}
 use Rattle.saa_word_steps.specs.AbstractState.{AbstractState, IsRun, held_by, opening}
 use Rattle.saa_word_proofs.specs.CallStages.{IsUnder}
-use Rattle.saa_word_proofs.specs.Refinement.{Refines}
+use Rattle.saa_word_proofs.specs.Refinement.{Invariant}
 use Rattle.saa_word_proofs.specs.Registering.{AreRegistered, is_slot}
 use Rattle.saa_word_proofs.specs.StepBound.{AreWithin}
 use Rattle.saa_word.specs.Machine.{State, place_of, row_of}
-use Rattle.saa_word.specs.Trace.{Trace, Underway}
+use Rattle.saa_word.specs.Trace.{Trace, PendingCall}
 
 -- a machine that stands together with an abstract state
 abbrev pub RefinesAs : State → AbstractState → Type 0
-RefinesAs state abstract = Refines (needs_of state.rules) (length state.places) (row_of state) (place_of state) abstract
+RefinesAs state abstract = Invariant (needs_of state.rules) (length state.places) (row_of state) (place_of state) abstract
 
 -- a machine is of few places, each with its words
 pub record IsSized (state : State) : Type 0 where
@@ -26,7 +26,7 @@ pub record IsSized (state : State) : Type 0 where
   pub words : length state.row ≡ 1 + 2 * length state.places
 
 -- a place is in this call
-abbrev pub IsIn : Needs → Option Underway → Place → Type 0
+abbrev pub IsIn : Needs → Option PendingCall → Place → Type 0
 IsIn needs None place = place.stage ≡ Quiet
 IsIn needs (Some underway) place = IsUnder needs underway.call underway.registered place.back place.stage underway.events
 
@@ -39,7 +39,7 @@ seeks_flag (PoisonExchange seen) = true
 seeks_flag _ = false
 
 -- a place that seeks the flag in its call hasn't held it there
-abbrev pub IsFresh : Option Underway → Stage → Type 0
+abbrev pub IsFresh : Option PendingCall → Stage → Type 0
 IsFresh None stage = Unit {0}
 IsFresh (Some underway) stage = seeks_flag stage ≡ true → underway.held ≡ false
 

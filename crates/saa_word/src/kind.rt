@@ -42,7 +42,7 @@ pub fn kind_at(stage: Stage) -> Option<Kind>
 {
     match stage {
         Stage::Quiet => None,
-        Stage::ReadLoad { .. } | Stage::AskLoad { .. } | Stage::AskExchange { .. } => {
+        Stage::ReadLoad { .. } | Stage::AcquireLoad { .. } | Stage::AcquireExchange { .. } => {
             Some(Kind::Ask)
         }
         Stage::Prepare { .. } => Some(Kind::Prepare),
@@ -52,8 +52,8 @@ pub fn kind_at(stage: Stage) -> Option<Kind>
         | Stage::BackStore { .. }
         | Stage::Forward { .. }
         | Stage::CutToClose { .. }
-        | Stage::CutToGoRound { .. } => Some(Kind::Walk),
-        Stage::Close { .. } | Stage::Empty { .. } | Stage::GoRound { .. } => Some(Kind::Publish),
+        | Stage::CutForRetry { .. } => Some(Kind::Walk),
+        Stage::Close { .. } | Stage::Empty { .. } | Stage::Retry { .. } => Some(Kind::Publish),
         Stage::ShowLoad { .. } | Stage::ShowStore { .. } => Some(Kind::Show),
         Stage::Take { .. } => Some(Kind::Take),
         Stage::FlagLoad | Stage::FlagExchange { .. } => Some(Kind::Flag),

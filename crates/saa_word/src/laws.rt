@@ -5,7 +5,7 @@ ghost use Rattle.saa_core_spec.specs.Object.{Object, newly_made};
 ghost use Rattle.saa_core_words.specs.Words.{count_bits};
 ghost use Rattle.saa_word_steps.specs.declared.rules.Rules.{Rules};
 ghost use Rattle.saa_word_steps.specs.Needs.{needs_of};
-ghost use Rattle.saa_word_proofs.specs.Promises.{IsAtRest};
+ghost use Rattle.saa_word_proofs.specs.Promises.{WordsAreQuiescent};
 ghost use Rattle.saa_word.specs.declared.moves.Move.{Move};
 ghost use Rattle.saa_word.specs.Machine.{IsMove, State, is_lock, opened, row_of};
 ghost use Rattle.saa_word.specs.Moves.{gone};
@@ -19,7 +19,7 @@ ghost use Rattle.saa_word.specs.Tracks.{Tracks};
 /// The flag is clear and no answer is due; the abstract state isn't open, and its line is settled. Some sequential semaphore or lock represents
 /// every machine, and a newly made one represents a machine that was just made.
 pub fn solo()
-    ensures quiet { (state : State) (trace : Trace) → Tracks state trace → IsQuiescent trace → IsAtRest (needs_of state.rules) (row_of state) trace.state }
+    ensures quiet { (state : State) (trace : Trace) → Tracks state trace → IsQuiescent trace → WordsAreQuiescent (needs_of state.rules) (row_of state) trace.state }
     ensures exists { (state : State) (trace : Trace) → (s : Object) × IsRepresented state trace s }
     ensures opening { (rules : Rules) (count places : ℕ) → IsRepresented (opened rules count places) (beginning count) (newly_made ((needs_of rules).held count) places places) }
 {}

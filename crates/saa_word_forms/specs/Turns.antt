@@ -7,7 +7,7 @@ use Rattle.saa_word_steps.specs.declared.call.Answer.{Answer}
 use Rattle.saa_word_steps.specs.declared.call.WordCall.{WordCall}
 use Rattle.saa_word_steps.specs.declared.call.WordCall.TheVariants.{Cancel, ClearPoison, Downgrade, TryLock, TryShare}
 use Rattle.saa_word_threads.specs.declared.lock.Place.{Place}
-use Rattle.saa_word_threads.specs.Locks.{IsMade, IsWaited}
+use Rattle.saa_word_threads.specs.Locks.{IsMade, AcquiresAndPolls}
 use Rattle.saa_word_threads.specs.Public.{is_yes, tried}
 
 -- a try of a place was granted
@@ -23,7 +23,7 @@ IsTriedAndRefused call before after =
 abbrev pub IsRefused : Mode → Place → Place → Type 0
 IsRefused mode before after =
     (refused : Place) × (cleared : Place) × (said : Answer) × (answer : Answer)
-    × IsWaited mode before false refused × IsMade ClearPoison refused said cleared × IsMade Cancel cleared answer after
+    × AcquiresAndPolls mode before false refused × IsMade ClearPoison refused said cleared × IsMade Cancel cleared answer after
 
 -- so many waits of a place were refused, one after another
 abbrev pub AreRefused : Mode → ℕ → Place → Place → Type 0
@@ -32,7 +32,7 @@ AreRefused mode (suc waits) before after = (between : Place) × AreRefused mode 
 
 -- a place waited, was refused so often, and then granted: only its last call took anything
 abbrev pub IsWaitedFor : Mode → Place → Place → Type 0
-IsWaitedFor mode before after = (refusals : ℕ) × (last : Place) × AreRefused mode refusals before last × IsWaited mode last true after
+IsWaitedFor mode before after = (refusals : ℕ) × (last : Place) × AreRefused mode refusals before last × AcquiresAndPolls mode last true after
 
 -- a downgrade of a place lowered its lock to a share
 abbrev pub IsLowered : Place → Place → Type 0
@@ -40,7 +40,7 @@ IsLowered before place = (answer : Answer) × (is_yes answer ≡ true) × IsMade
 
 -- the last call of a place took the lock for one owner alone: a try of it was granted, or a wait for it
 abbrev pub TookLock : Place → Type 0
-TookLock place = (before : Place) × (IsTriedAndGranted TryLock before place ⊎ IsWaited Exclusive before true place)
+TookLock place = (before : Place) × (IsTriedAndGranted TryLock before place ⊎ AcquiresAndPolls Exclusive before true place)
 
 abbrev pub HasLock : Place → Type 0
 HasLock place = ∥ TookLock place ∥₁
@@ -56,7 +56,7 @@ abbrev pub TookShare : Place → Type 0
 TookShare place =
     (before : Place)
     × (IsTriedAndGranted TryShare before place
-    ⊎ (IsWaited Shared before true place
+    ⊎ (AcquiresAndPolls Shared before true place
     ⊎ (HasLock before × IsLowered before place)))
 
 abbrev pub HasShare : Place → Type 0

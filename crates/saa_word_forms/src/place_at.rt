@@ -8,7 +8,7 @@ ghost use Rattle.saa_core_spec.specs.declared.lock.Mode.TheVariants.{Exclusive, 
 ghost use Rattle.saa_word_steps.specs.declared.call.Answer.{Answer};
 ghost use Rattle.saa_word_steps.specs.declared.call.WordCall.TheVariants.{Cancel, ClearPoison, Downgrade, ReleaseLock, ReleaseShare, TryLock, TryShare};
 ghost use Rattle.saa_word_threads.specs.declared.lock.Place.{Place};
-ghost use Rattle.saa_word_threads.specs.Locks.{IsDealtBy, IsMade, IsWaited};
+ghost use Rattle.saa_word_threads.specs.Locks.{IsDealtBy, IsMade, AcquiresAndPolls};
 ghost use Rattle.saa_word_threads.specs.Public.{is_yes, tried};
 ghost use Rattle.saa_word_forms.specs.Turns.{HasLock, HasShare, IsLoweredOrWaitedFor, IsWaitedFor};
 
@@ -66,7 +66,7 @@ impl<'l> PlaceAt<'l> {
     // Waits for the lock once. `false`: it is poisoned, or the place is registered.
     fn ask_lock<R: Wait>(&mut self, rt: &R) -> bool
         ensures lock { self.new.lock ≡ self.old.lock }
-        ensures waited { IsWaited Exclusive self.old.place result self.new.place }
+        ensures waited { AcquiresAndPolls Exclusive self.old.place result self.new.place }
     {
         self.lock.lock(rt, &mut self.place)
     }
@@ -101,7 +101,7 @@ impl<'l> PlaceAt<'l> {
     // Waits for a share once. `false`: the lock is poisoned, or the place is registered.
     fn ask_share<R: Wait>(&mut self, rt: &R) -> bool
         ensures lock { self.new.lock ≡ self.old.lock }
-        ensures waited { IsWaited Shared self.old.place result self.new.place }
+        ensures waited { AcquiresAndPolls Shared self.old.place result self.new.place }
     {
         self.lock.share(rt, &mut self.place)
     }

@@ -18,7 +18,7 @@ use Rattle.saa_word_threads.specs.declared.lock.Place.{Place}
 use Rattle.saa_word_threads.specs.declared.receipt.Receipt.{Receipt}
 use Rattle.saa_word_threads.specs.Locks.{IsMade, table_of}
 use Rattle.saa_word_threads.specs.Receipts.{IsReceiptAt}
-use Rattle.saa_word_lock_free.specs.Calls.{IsWaited}
+use Rattle.saa_word_lock_free.specs.Calls.{AcquiresAndPolls}
 use Rattle.saa_word_lock_free.specs.LockCalls.{IsAcquired}
 use Rattle.saa_word_lock_free.specs.OfLock.{IsCancelled, IsPolled, calls_of, home_of}
 use Rattle.saa_word_lock_free.specs.Pendings.{ArePolledInVain, IsAnsweredLater, IsAwaited}
@@ -43,7 +43,7 @@ end-keeps lock (Ok value) old new ended = cc
 end-keeps lock (Err error) old new ended = ended.1.0.1
 
 -- the receipt of a wait
-wait-is-at : (lock : Lock) (mode : Mode) (answer : Result ℕ Error) (receipt : Receipt) → IsWaited (calls_of lock) mode answer receipt
+wait-is-at : (lock : Lock) (mode : Mode) (answer : Result ℕ Error) (receipt : Receipt) → AcquiresAndPolls (calls_of lock) mode answer receipt
     → IsReceiptAt (table_of lock) receipt
 wait-is-at lock mode answer receipt waited =
     waited.received.0

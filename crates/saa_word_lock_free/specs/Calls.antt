@@ -30,7 +30,7 @@ IsAsked tries number visitor = (told : Result (Unit {0}) TryLockError) × tries 
 module _ {Ask Place : Type 0} where
   -- A wait at a place that rested in the pool: a registration, a poll, and a cancel where that has no answer. The receipt says what the place had
   -- seen at the end
-  pub record IsWaited (calls : WordCalls Ask Place) (ask : Ask) (answer : Result ℕ Error) (receipt : Receipt) : Type 0 where
+  pub record AcquiresAndPolls (calls : WordCalls Ask Place) (ask : Ask) (answer : Result ℕ Error) (receipt : Receipt) : Type 0 where
     pub first : Place
     pub between : Place
     pub told : Place
@@ -50,10 +50,10 @@ module _ {Ask Place : Type 0} where
   abbrev pub IsAcquired : WordCalls Ask Place → Ask → Result ℕ Error → Receipt → Type 0
   IsAcquired calls ask answer receipt =
       ((visitor : Visitor) × (value : ℕ) × (answer ≡ Ok value) × IsAsked (calls.tries ask) (Some value) visitor × calls.receives_by visitor receipt)
-      ⊎ IsWaited calls ask answer receipt
+      ⊎ AcquiresAndPolls calls ask answer receipt
 
   -- the same of a call that hands out no receipt
   abbrev pub IsAnswered : WordCalls Ask Place → Ask → Result ℕ Error → Type 0
   IsAnswered calls ask answer =
       ((visitor : Visitor) × (value : ℕ) × (answer ≡ Ok value) × IsAsked (calls.tries ask) (Some value) visitor)
-      ⊎ ((receipt : Receipt) × IsWaited calls ask answer receipt)
+      ⊎ ((receipt : Receipt) × AcquiresAndPolls calls ask answer receipt)

@@ -4,7 +4,7 @@
 //! back in the pool, whatever they answer.
 
 ghost use Rattle.std.specs.Prelude.{◌≡◌, false, true, IfErr, IfOk, Ok};
-ghost use Rattle.saa_word_lock_free.specs.Calls.{HasEndedAt, IsAcquired, IsAnswered, IsAsked, IsWaited, number_at_once};
+ghost use Rattle.saa_word_lock_free.specs.Calls.{HasEndedAt, IsAcquired, IsAnswered, IsAsked, AcquiresAndPolls, number_at_once};
 ghost use Rattle.saa_word_lock_free.specs.Forms.{IsOut, IsRefusedBy, WasFull};
 ghost use Rattle.saa_word_lock_free.specs.Places.{table_of};
 
@@ -97,7 +97,7 @@ impl<R: Wait + Drop, W: WordForm> Form<R, W> {
     #[inline(never)]
     fn wait_at_place(&self, ask: W::Ask) -> Result<(u8, Receipt), NoPlace<W::Place, W>>
         requires { W.fits ask }
-        ensures waited { IfOk result (λ told. IsWaited (W.calls self.now.word) ask (Ok told.0) told.1) }
+        ensures waited { IfOk result (λ told. AcquiresAndPolls (W.calls self.now.word) ask (Ok told.0) told.1) }
         ensures refused { IfErr result (λ no_place. IsRefusedBy self.now no_place) }
     {
         let borrowed = self.borrow()?;

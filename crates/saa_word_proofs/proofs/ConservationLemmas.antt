@@ -7,7 +7,7 @@ use Rattle.saa_core_spec.specs.Values.{granted_value}
 use Rattle.saa_core_spec.proofs.Counts.{same_number, other_number, times-append, times-take_drop, times-without_same, times-without_other}
 use Rattle.saa_word_steps.specs.Needs.{Needs, left_count, permit_needs}
 use Rattle.saa_word_steps.specs.declared.event.Event.{Event}
-use Rattle.saa_word_steps.specs.declared.event.Event.TheVariants.{Got, Refused, Joined, Gave, GaveNothing, Lowered, NotLowered, AskedPoisoned, Left, Closed, Poisoned, NotPoisoned, Cleared, NotCleared, NotReady, Granted, Showed, Took, Read}
+use Rattle.saa_word_steps.specs.declared.event.Event.TheVariants.{Acquired, Refused, Joined, Released, ReleasedNothing, Lowered, NotLowered, AskedPoisoned, Cancelled, Closed, Poisoned, NotPoisoned, Cleared, NotCleared, NotReady, Granted, Showed, AnswerTaken, Read}
 use Rattle.saa_word_steps.specs.AbstractState.{AbstractState, IsEnabled, after_event, IsRun, opening, is_in, takes_of, answered_with, with_answer, held_by}
 use Rattle.saa_word_steps.proofs.AbstractRuns.{run-once, waits-none, waits-some}
 use Rattle.saa_word_proofs.proofs.RefinementLemmas.Lists.{takes-append}
@@ -54,17 +54,17 @@ permits-back bound count request left is =
 balanced-step : (bound withheld : ℕ) (state : AbstractState) (tally : Tally) (place : ℕ) (event : Event) → poisons event ≡ false
     → IsEnabled (permit_needs bound) state place event → ConservesPermits (permit_needs bound) withheld state tally
     → ConservesPermits (permit_needs bound) withheld (after_event (permit_needs bound) state place event) (after_counting (permit_needs bound) state tally place event)
-balanced-step bound withheld state tally place (Got request) none allowed was = omega (arith, was)
+balanced-step bound withheld state tally place (Acquired request) none allowed was = omega (arith, was)
 balanced-step bound withheld state tally place (Refused request) none allowed was = was
 balanced-step bound withheld state tally place (Joined request) none allowed was = was
-balanced-step bound withheld state tally place (Gave request) none allowed was =
+balanced-step bound withheld state tally place (Released request) none allowed was =
     let back = permits-back bound state.count request allowed.1.0 allowed.1.1 in
     rw allowed.1.1 (omega (arith, was, back))
-balanced-step bound withheld state tally place (GaveNothing request) none allowed was = was
+balanced-step bound withheld state tally place (ReleasedNothing request) none allowed was = was
 balanced-step bound withheld state tally place Lowered none allowed was = (let wrong : false ≡ true = allowed.2 in absurd (cc))
 balanced-step bound withheld state tally place NotLowered none allowed was = was
 balanced-step bound withheld state tally place AskedPoisoned none allowed was = was
-balanced-step bound withheld state tally place Left none allowed was = was
+balanced-step bound withheld state tally place Cancelled none allowed was = was
 balanced-step bound withheld state tally place (Granted askers) none allowed was =
     omega (arith, was, takes-append (permit_needs bound) tally.pending (take askers state.line))
 balanced-step bound withheld state tally place Closed none allowed was = was
@@ -74,7 +74,7 @@ balanced-step bound withheld state tally place Cleared none allowed was = was
 balanced-step bound withheld state tally place NotCleared none allowed was = was
 balanced-step bound withheld state tally place NotReady none allowed was = was
 balanced-step bound withheld state tally place (Showed shown_place) none allowed was = was
-balanced-step bound withheld state tally place (Took value) none allowed was =
+balanced-step bound withheld state tally place (AnswerTaken value) none allowed was =
     omega (arith, was, takes-parts (permit_needs bound) place tally.pending)
 balanced-step bound withheld state tally place (Read count poisoned) none allowed was = was
 
@@ -102,15 +102,15 @@ pending-step : (needs : Needs) (state : AbstractState) (tally : Tally) (place : 
     → ArePending state tally → (other : ℕ)
     → times other (after_counting needs state tally place event).pending
     ≡ one_if (is_some ((after_event needs state place event).due other)) + one_if (is_some ((after_event needs state place event).shown other))
-pending-step needs state tally place (Got request) none allowed was other = was.pending other
+pending-step needs state tally place (Acquired request) none allowed was other = was.pending other
 pending-step needs state tally place (Refused request) none allowed was other = was.pending other
 pending-step needs state tally place (Joined request) none allowed was other = was.pending other
-pending-step needs state tally place (Gave request) none allowed was other = was.pending other
-pending-step needs state tally place (GaveNothing request) none allowed was other = was.pending other
+pending-step needs state tally place (Released request) none allowed was other = was.pending other
+pending-step needs state tally place (ReleasedNothing request) none allowed was other = was.pending other
 pending-step needs state tally place Lowered none allowed was other = was.pending other
 pending-step needs state tally place NotLowered none allowed was other = was.pending other
 pending-step needs state tally place AskedPoisoned none allowed was other = was.pending other
-pending-step needs state tally place Left none allowed was other = was.pending other
+pending-step needs state tally place Cancelled none allowed was other = was.pending other
 pending-step needs state tally place (Granted askers) none allowed was other =
     let line = times-append other tally.pending (take askers state.line) in
     let parts = times-take_drop other askers state.line in
@@ -133,7 +133,7 @@ pending-step needs state tally place (Showed shown_place) none allowed was other
           rw same (omega (arith, was.pending other, was.once other, due, now))
       | inr apart ↦ rw apart (was.pending other)
     ]
-pending-step needs state tally place (Took value) none allowed was other =
+pending-step needs state tally place (AnswerTaken value) none allowed was other =
     elim (cases_Bool (other == place)) [
       | inl same ↦
           let is : place ≡ other = sym (same_number other place same) in
@@ -183,15 +183,15 @@ changed-grants at answer answers was here place value =
 
 granted-step : (needs : Needs) (state : AbstractState) (place : ℕ) (event : Event) → poisons event ≡ false → IsEnabled needs state place event
     → AreGranted state → AreGranted (after_event needs state place event)
-granted-step needs state place (Got request) none allowed was = record { due = was.due; shown = was.shown }
+granted-step needs state place (Acquired request) none allowed was = record { due = was.due; shown = was.shown }
 granted-step needs state place (Refused request) none allowed was = was
 granted-step needs state place (Joined request) none allowed was = record { due = was.due; shown = was.shown }
-granted-step needs state place (Gave request) none allowed was = record { due = was.due; shown = was.shown }
-granted-step needs state place (GaveNothing request) none allowed was = was
+granted-step needs state place (Released request) none allowed was = record { due = was.due; shown = was.shown }
+granted-step needs state place (ReleasedNothing request) none allowed was = was
 granted-step needs state place Lowered none allowed was = record { due = was.due; shown = was.shown }
 granted-step needs state place NotLowered none allowed was = was
 granted-step needs state place AskedPoisoned none allowed was = was
-granted-step needs state place Left none allowed was = record { due = was.due; shown = was.shown }
+granted-step needs state place Cancelled none allowed was = record { due = was.due; shown = was.shown }
 granted-step needs state place (Granted askers) none allowed was =
     record { due = answered-grants (take askers state.line) state.due was.due; shown = was.shown }
 granted-step needs state place Closed none allowed was = record { due = was.due; shown = was.shown }
@@ -204,7 +204,7 @@ granted-step needs state place (Showed shown_place) none allowed was = record {
   due = changed-grants shown_place None state.due was.due (λ value is. absurd (cc));
   shown = changed-grants shown_place (state.due shown_place) state.shown was.shown (was.due shown_place);
 }
-granted-step needs state place (Took value) none allowed was =
+granted-step needs state place (AnswerTaken value) none allowed was =
     record { due = was.due; shown = changed-grants place None state.shown was.shown (λ value is. absurd (cc)) }
 granted-step needs state place (Read count poisoned) none allowed was = was
 
@@ -219,15 +219,15 @@ run-granted needs withheld events last none run =
 -- nothing poisons what isn't a lock
 never-step : (needs : Needs) (state : AbstractState) (place : ℕ) (event : Event) → needs.is_lock ≡ false → IsEnabled needs state place event → poisons event ≡ false
 never-step needs state place Poisoned semaphore allowed = (let wrong : true ≡ false = sym allowed.1.2 ∙ semaphore in absurd (cc))
-never-step needs state place (Got request) semaphore allowed = refl
+never-step needs state place (Acquired request) semaphore allowed = refl
 never-step needs state place (Refused request) semaphore allowed = refl
 never-step needs state place (Joined request) semaphore allowed = refl
-never-step needs state place (Gave request) semaphore allowed = refl
-never-step needs state place (GaveNothing request) semaphore allowed = refl
+never-step needs state place (Released request) semaphore allowed = refl
+never-step needs state place (ReleasedNothing request) semaphore allowed = refl
 never-step needs state place Lowered semaphore allowed = refl
 never-step needs state place NotLowered semaphore allowed = refl
 never-step needs state place AskedPoisoned semaphore allowed = refl
-never-step needs state place Left semaphore allowed = refl
+never-step needs state place Cancelled semaphore allowed = refl
 never-step needs state place (Granted askers) semaphore allowed = refl
 never-step needs state place Closed semaphore allowed = refl
 never-step needs state place NotPoisoned semaphore allowed = refl
@@ -235,7 +235,7 @@ never-step needs state place Cleared semaphore allowed = refl
 never-step needs state place NotCleared semaphore allowed = refl
 never-step needs state place NotReady semaphore allowed = refl
 never-step needs state place (Showed shown_place) semaphore allowed = refl
-never-step needs state place (Took value) semaphore allowed = refl
+never-step needs state place (AnswerTaken value) semaphore allowed = refl
 never-step needs state place (Read count poisoned) semaphore allowed = refl
 
 pub run-never : (needs : Needs) → needs.is_lock ≡ false → (state : AbstractState) (events : List (ℕ × Event)) (last : AbstractState) → IsRun needs state events last
@@ -248,15 +248,15 @@ run-never needs semaphore state (event ∷ events) last run =
 calm-step : (needs : Needs) (state : AbstractState) (place : ℕ) (event : Event) → poisons event ≡ false → state.poisoned ≡ false
     → (after_event needs state place event).poisoned ≡ false
 calm-step needs state place Poisoned none was = absurd (cc)
-calm-step needs state place (Got request) none was = was
+calm-step needs state place (Acquired request) none was = was
 calm-step needs state place (Refused request) none was = was
 calm-step needs state place (Joined request) none was = was
-calm-step needs state place (Gave request) none was = was
-calm-step needs state place (GaveNothing request) none was = was
+calm-step needs state place (Released request) none was = was
+calm-step needs state place (ReleasedNothing request) none was = was
 calm-step needs state place Lowered none was = was
 calm-step needs state place NotLowered none was = was
 calm-step needs state place AskedPoisoned none was = was
-calm-step needs state place Left none was = was
+calm-step needs state place Cancelled none was = was
 calm-step needs state place (Granted askers) none was = was
 calm-step needs state place Closed none was = was
 calm-step needs state place NotPoisoned none was = was
@@ -264,22 +264,22 @@ calm-step needs state place Cleared none was = refl
 calm-step needs state place NotCleared none was = was
 calm-step needs state place NotReady none was = was
 calm-step needs state place (Showed shown_place) none was = was
-calm-step needs state place (Took value) none was = was
+calm-step needs state place (AnswerTaken value) none was = was
 calm-step needs state place (Read count poisoned) none was = was
 
 -- so each of its events is one of a semaphore
 permits-step : (needs : Needs) → needs.is_lock ≡ false → (state : AbstractState) (place : ℕ) (event : Event) → poisons event ≡ false → IsEnabled needs state place event
     → state.poisoned ≡ false → AreGranted state → is_of_permits event ≡ true
 permits-step needs semaphore state place Poisoned none allowed calm was = absurd (cc)
-permits-step needs semaphore state place (Got request) none allowed calm was = refl
+permits-step needs semaphore state place (Acquired request) none allowed calm was = refl
 permits-step needs semaphore state place (Refused request) none allowed calm was = refl
 permits-step needs semaphore state place (Joined request) none allowed calm was = refl
-permits-step needs semaphore state place (Gave request) none allowed calm was = refl
-permits-step needs semaphore state place (GaveNothing request) none allowed calm was = refl
+permits-step needs semaphore state place (Released request) none allowed calm was = refl
+permits-step needs semaphore state place (ReleasedNothing request) none allowed calm was = refl
 permits-step needs semaphore state place Lowered none allowed calm was = (let wrong : true ≡ false = sym allowed.2 ∙ semaphore in absurd (cc))
 permits-step needs semaphore state place NotLowered none allowed calm was = refl
 permits-step needs semaphore state place AskedPoisoned none allowed calm was = (let wrong : true ≡ false = sym allowed ∙ calm in absurd (cc))
-permits-step needs semaphore state place Left none allowed calm was = refl
+permits-step needs semaphore state place Cancelled none allowed calm was = refl
 permits-step needs semaphore state place (Granted askers) none allowed calm was = refl
 permits-step needs semaphore state place Closed none allowed calm was = refl
 permits-step needs semaphore state place NotPoisoned none allowed calm was = refl
@@ -287,7 +287,7 @@ permits-step needs semaphore state place Cleared none allowed calm was = (let wr
 permits-step needs semaphore state place NotCleared none allowed calm was = refl
 permits-step needs semaphore state place NotReady none allowed calm was = refl
 permits-step needs semaphore state place (Showed shown_place) none allowed calm was = refl
-permits-step needs semaphore state place (Took value) none allowed calm was = ap (λ (n : ℕ). n == granted_value) (was.shown place value allowed)
+permits-step needs semaphore state place (AnswerTaken value) none allowed calm was = ap (λ (n : ℕ). n == granted_value) (was.shown place value allowed)
 permits-step needs semaphore state place (Read count poisoned) none allowed calm was = refl
 
 pub run-permits : (needs : Needs) → needs.is_lock ≡ false → (state : AbstractState) (events : List (ℕ × Event)) (last : AbstractState) → state.poisoned ≡ false

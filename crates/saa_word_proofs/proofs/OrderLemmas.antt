@@ -7,7 +7,7 @@ use Rattle.saa_core_spec.specs.Values.{granted_value, poisoned_value}
 use Rattle.saa_core_spec.proofs.Counts.{number_same, same_number, times-take_drop, times-without_same}
 use Rattle.saa_word_steps.specs.Needs.{Needs}
 use Rattle.saa_word_steps.specs.declared.event.Event.{Event}
-use Rattle.saa_word_steps.specs.declared.event.Event.TheVariants.{Got, Joined, Left, Granted, Poisoned, Showed, Took}
+use Rattle.saa_word_steps.specs.declared.event.Event.TheVariants.{Acquired, Joined, Cancelled, Granted, Poisoned, Showed, AnswerTaken}
 use Rattle.saa_word_steps.specs.AbstractState.{AbstractState, IsEnabled, after_event, IsRun, opening, is_in, answered_with, held_by}
 use Rattle.saa_word_steps.proofs.AbstractRuns.{run-once, waits-none, waits-some}
 use Rattle.saa_word_proofs.proofs.RefinementLemmas.Lists.{in-none, in-append}
@@ -53,7 +53,7 @@ opening-once count place = omega arith
 -- Who waits
 
 queue-step : (needs : Needs) (state : AbstractState) (place : ℕ) (event : Event) → (after_event needs state place event).line ≡ queue_after state.line place event
-queue-step needs state place (Got request) = refl
+queue-step needs state place (Acquired request) = refl
 queue-step needs state place _ = refl
 
 pub run-waiting : (needs : Needs) (state : AbstractState) (history : List (ℕ × Event)) (last : AbstractState) → IsRun needs state history last
@@ -64,9 +64,9 @@ run-waiting needs state (entry ∷ rest) last run =
     ∙ run-waiting needs (after_event needs state entry.0 entry.1) rest last run.1
 
 pub no-barging : (needs : Needs) (withheld : ℕ) (before after : List (ℕ × Event)) (place request : ℕ) (last : AbstractState)
-    → IsRun needs (opening withheld) (before ++ (place, Got request) ∷ after) last → waiting before ≡ []
+    → IsRun needs (opening withheld) (before ++ (place, Acquired request) ∷ after) last → waiting before ≡ []
 no-barging needs withheld before after place request last run =
-    let parts = split-run needs (opening withheld) before ((place, Got request) ∷ after) last run in
+    let parts = split-run needs (opening withheld) before ((place, Acquired request) ∷ after) last run in
     run-waiting needs (opening withheld) before parts.middle parts.first ∙ parts.second.0.1
 
 -- Who is out of the queue stays out until it joins
@@ -91,7 +91,7 @@ out-step place at (Joined request) queue another out =
       | inl same ↦ let wrong : true ≡ false = another same in absurd (cc)
       | inr apart ↦ in-append place queue ((at, request) ∷ []) ∙ rw (out, apart) refl
     ]
-out-step place at Left queue another out = out-without place at queue out
+out-step place at Cancelled queue another out = out-without place at queue out
 out-step place at (Granted askers) queue another out = out-drop place askers queue out
 out-step place at Poisoned queue another out = refl
 out-step place at _ queue another out = out
@@ -130,16 +130,16 @@ run-in needs place state history last run none some =
     ]
 
 pub not-barged : (needs : Needs) (withheld : ℕ) (before between after : List (ℕ × Event)) (waiter other request : ℕ) (last : AbstractState)
-    → IsRun needs (opening withheld) (before ++ (other, Got request) ∷ between ++ (waiter, Left) ∷ after) last
+    → IsRun needs (opening withheld) (before ++ (other, Acquired request) ∷ between ++ (waiter, Cancelled) ∷ after) last
     → joins (part_of waiter between) ≡ true
 not-barged needs withheld before between after waiter other request last run =
-    let leaves = split-run needs (opening withheld) (before ++ (other, Got request) ∷ between) ((waiter, Left) ∷ after) last run in
-    let gets = split-run needs (opening withheld) before ((other, Got request) ∷ between) leaves.middle leaves.first in
+    let leaves = split-run needs (opening withheld) (before ++ (other, Acquired request) ∷ between) ((waiter, Cancelled) ∷ after) last run in
+    let gets = split-run needs (opening withheld) before ((other, Acquired request) ∷ between) leaves.middle leaves.first in
     elim (cases_Bool (joins (part_of waiter between))) [
       | inl some ↦ some
       | inr none ↦
           let waits : is_in waiter gets.middle.line ≡ true =
-          run-in needs waiter (after_event needs gets.middle other (Got request)) between leaves.middle gets.second.1 none leaves.second.0 in
+          run-in needs waiter (after_event needs gets.middle other (Acquired request)) between leaves.middle gets.second.1 none leaves.second.0 in
           let wrong : true ≡ false = sym waits ∙ ap (is_in waiter) gets.second.0.1 in
           absurd (cc)
     ]
@@ -149,12 +149,12 @@ not-barged needs withheld before between after waiter other request last run =
 -- whether an event says whether a place that waits stays in the queue
 abbrev decides : Event → Bool
 decides (Joined request) = true
-decides Left = true
+decides Cancelled = true
 decides _ = false
 
 cancels-past : (event : Event) (later : List Event) → decides event ≡ false → cancels (event ∷ later) ≡ cancels later
 cancels-past (Joined request) later none = absurd (cc)
-cancels-past Left later none = absurd (cc)
+cancels-past Cancelled later none = absurd (cc)
 cancels-past _ later none = refl
 
 part-past : (other place : ℕ) (event : Event) (rest : List (ℕ × Event)) → decides event ≡ false
@@ -169,7 +169,7 @@ part-past other place event rest none =
 cancels-out : (needs : Needs) (state : AbstractState) (place : ℕ) (event : Event) (later : List Event) → IsEnabled needs state place event
     → is_in place state.line ≡ false → (joins (event ∷ []) ≡ false → cancels later ≡ false) → cancels (event ∷ later) ≡ false
 cancels-out needs state place (Joined request) later allowed out rest = refl
-cancels-out needs state place Left later allowed out rest = (let wrong : true ≡ false = sym allowed ∙ out in absurd (cc))
+cancels-out needs state place Cancelled later allowed out rest = (let wrong : true ≡ false = sym allowed ∙ out in absurd (cc))
 cancels-out needs state place _ later allowed out rest = rest refl
 
 pub run-cancels : (needs : Needs) (place : ℕ) (state : AbstractState) (history : List (ℕ × Event)) (last : AbstractState) → IsRun needs state history last
@@ -226,7 +226,7 @@ remaining-all (waiter ∷ rest) history stay =
     (remaining-all rest history (λ place some. stay place (elim (cases_Bool (waiter.0 == place)) [ inl is ↦ rw is refl | inr apart ↦ rw apart some ]))))
 
 remaining-left : (place : ℕ) (queue : List (ℕ × ℕ)) (rest : List (ℕ × Event))
-    → remaining queue ((place, Left) ∷ rest) ≡ remaining (without place queue) rest
+    → remaining queue ((place, Cancelled) ∷ rest) ≡ remaining (without place queue) rest
 remaining-left place [] rest = refl
 remaining-left place (waiter ∷ behind) rest =
     elim (cases_Bool (waiter.0 == place)) [
@@ -276,8 +276,8 @@ remaining-step needs state place (Joined request) rest last allowed run once =
     ]) in
     ap (λ (l : List (ℕ × ℕ)). l ++ joined_by place (Joined request) (part_of place rest)) past
     ∙ sym (remaining-append state.line ((place, request) ∷ []) rest)
-remaining-step needs state place Left rest last allowed run once =
-    append-nil (remaining state.line ((place, Left) ∷ rest)) ∙ remaining-left place state.line rest
+remaining-step needs state place Cancelled rest last allowed run once =
+    append-nil (remaining state.line ((place, Cancelled) ∷ rest)) ∙ remaining-left place state.line rest
 remaining-step needs state place (Granted askers) rest last allowed run once =
     let front : remaining (take askers state.line) rest ≡ take askers state.line =
     remaining-all (take askers state.line) rest (λ other some.
@@ -368,7 +368,7 @@ abbrev pub taken_by : ℕ → ℕ → Event → List ℕ
 taken_by other place event = if place == other then taken (event ∷ []) else []
 
 taken-first : (event : Event) (later : List Event) → taken (event ∷ later) ≡ taken (event ∷ []) ++ taken later
-taken-first (Took value) later = refl
+taken-first (AnswerTaken value) later = refl
 taken-first _ later = refl
 
 taken-step : (other place : ℕ) (event : Event) (rest : List (ℕ × Event))
@@ -422,7 +422,7 @@ has-step needs state other place (Showed shown_place) allowed once =
           rw (same, shown, moved, none-if (place == other)) refl
       | inr apart ↦ rw apart (unchanged (place == other) (has_of state other))
     ]
-has-step needs state other place (Took value) allowed once =
+has-step needs state other place (AnswerTaken value) allowed once =
     elim (cases_Bool (other == place)) [
       | inl same ↦
           let is : place ≡ other = sym (same_number other place same) in
@@ -471,7 +471,7 @@ shown-step needs state other place (Showed shown_place) allowed once =
           rw (same, swapped_true other shown_place same) (omega (arith, once other, due, moved, length-none (place == other)))
       | inr apart ↦ rw (apart, swapped_false other shown_place apart) (omega (arith, length-none (place == other)))
     ]
-shown-step needs state other place (Took value) allowed once =
+shown-step needs state other place (AnswerTaken value) allowed once =
     elim (cases_Bool (other == place)) [
       | inl same ↦
           let is : place ≡ other = sym (same_number other place same) in
@@ -588,7 +588,7 @@ behind-step needs one place state at (Joined request) allowed once before after 
   record { behind = ahead-some one place state.line ((at, request) ∷ []) before ∙ was.behind; due = was.due; shown = was.shown },
   none-if (at == one),
 )
-behind-step needs one place state at Left allowed once before after was =
+behind-step needs one place state at Cancelled allowed once before after was =
     elim (cases_Bool (at == place)) [
       | inl same ↦
           let is : at ≡ place = same_number at place same in
@@ -618,7 +618,7 @@ behind-step needs one place state at (Showed shown_place) allowed once before af
           (record { behind = was.behind; due = rw same refl; shown = rw same none }, none-if (at == one))
       | inr apart ↦ (record { behind = was.behind; due = rw apart was.due; shown = rw apart was.shown }, none-if (at == one))
     ]
-behind-step needs one place state at (Took value) allowed once before after was =
+behind-step needs one place state at (AnswerTaken value) allowed once before after was =
     elim (cases_Bool (at == one)) [
       | inl same ↦
           let is : at ≡ one = same_number at one same in
@@ -645,10 +645,10 @@ run-behind needs one place state (entry ∷ rest) last run once none waits was =
     taken-step one entry.0 entry.1 rest ∙ ap (λ (l : List ℕ). l ++ taken (part_of one rest)) now.1 ∙ later
 
 pub not-overtaken : (needs : Needs) (withheld : ℕ) (before between after : List (ℕ × Event)) (first second request : ℕ) (last : AbstractState)
-    → IsRun needs (opening withheld) (before ++ (second, Joined request) ∷ between ++ (first, Left) ∷ after) last
+    → IsRun needs (opening withheld) (before ++ (second, Joined request) ∷ between ++ (first, Cancelled) ∷ after) last
     → joins (part_of first between) ≡ false → taken (part_of second between) ≡ []
 not-overtaken needs withheld before between after first second request last run none =
-    let leaves = split-run needs (opening withheld) (before ++ (second, Joined request) ∷ between) ((first, Left) ∷ after) last run in
+    let leaves = split-run needs (opening withheld) (before ++ (second, Joined request) ∷ between) ((first, Cancelled) ∷ after) last run in
     let joining = split-run needs (opening withheld) before ((second, Joined request) ∷ between) leaves.middle leaves.first in
     let state : AbstractState = after_event needs joining.middle second (Joined request) in
     let allowed = joining.second.0 in

@@ -17,7 +17,7 @@ pub mod Closing
 pub mod Emptying
 pub mod GoingRound
 pub mod Showing
-pub mod Taking
+pub mod PollMode
 pub mod Looking
 pub mod Leaving
 pub mod Unlinking

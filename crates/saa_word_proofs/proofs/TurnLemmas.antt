@@ -4,7 +4,7 @@ use Rattle.std.proofs.lemmas.Bool.{cases_Bool}
 use Rattle.saa_core_spec.specs.Object.{one_if, without}
 use Rattle.saa_core_spec.proofs.Counts.{number_same, same_number}
 use Rattle.saa_word_steps.specs.declared.event.Event.{Event}
-use Rattle.saa_word_steps.specs.declared.event.Event.TheVariants.{Got, Refused, Joined, Gave, GaveNothing, Lowered, NotLowered, AskedPoisoned, Left, Closed, Poisoned, NotPoisoned, Cleared, NotCleared, NotReady, Granted, Showed, Took, Read}
+use Rattle.saa_word_steps.specs.declared.event.Event.TheVariants.{Acquired, Refused, Joined, Released, ReleasedNothing, Lowered, NotLowered, AskedPoisoned, Cancelled, Closed, Poisoned, NotPoisoned, Cleared, NotCleared, NotReady, Granted, Showed, AnswerTaken, Read}
 use Rattle.saa_word_steps.specs.Needs.{Needs, fits_count, left_count}
 use Rattle.saa_word_steps.specs.AbstractState.{AbstractState, IsEnabled, IsFront, IsRun, after_event, answered_with, count_or, held_by, is_empty, is_in, opening, takes_of, with_answer}
 use Rattle.saa_word_proofs.specs.Turns.{AreTurns, AreTurnsFrom, IsOfTurns, IsWhole, NobodyIsAnswered, begins_turn, is_taken, is_taken_after, is_taken_from}
@@ -311,22 +311,22 @@ module _ (needs : Needs) (whole : ℕ) (w : IsWhole needs whole) where
   -- Each event of those who take turns
   event-keeps : (taken : Bool) (state : AbstractState) (place : ℕ) (event : Event) → InTurns taken state → AreOnce state
       → IsEnabled needs state place event → IsOfTurns whole taken event → InTurns (is_taken_after taken event) (after_event needs state place event)
-  event-keeps taken state place (Got request) s once enabled allowed =
+  event-keeps taken state place (Acquired request) s once enabled allowed =
       subst (λ (n : ℕ). InTurns true (record state { count = state.count + needs.takes n })) (sym allowed)
       (got taken state s (subst (λ (n : ℕ). fits_count needs state.count n ≡ true) allowed enabled.2))
   event-keeps taken state place (Refused request) s once enabled allowed = s
   event-keeps taken state place (Joined request) s once enabled allowed =
       lined taken state s (state.line ++ (place, request) ∷ []) state.unclosed (ask-join whole state.line place request s.asks allowed)
-  event-keeps taken state place (Gave request) s once enabled allowed =
+  event-keeps taken state place (Released request) s once enabled allowed =
       subst (λ (n : ℕ). InTurns false (record state {
         count = count_or state.count (left_count needs state.count n);
         unclosed = not (is_empty state.line) || state.unclosed;
       })) (sym allowed.0) (gave taken state s allowed.1 (not (is_empty state.line) || state.unclosed))
-  event-keeps taken state place (GaveNothing request) s once enabled allowed = s
+  event-keeps taken state place (ReleasedNothing request) s once enabled allowed = s
   event-keeps taken state place Lowered s once enabled allowed = absurd allowed
   event-keeps taken state place NotLowered s once enabled allowed = s
   event-keeps taken state place AskedPoisoned s once enabled allowed = s
-  event-keeps taken state place Left s once enabled allowed =
+  event-keeps taken state place Cancelled s once enabled allowed =
       lined taken state s (without place state.line) (not (is_empty (without place state.line))) (ask-without whole state.line place s.asks)
   event-keeps taken state place (Granted askers) s once enabled allowed = grants taken state s askers enabled.1 enabled.2 enabled.3 _
   event-keeps taken state place Closed s once enabled allowed = lined taken state s state.line false s.asks
@@ -337,7 +337,7 @@ module _ (needs : Needs) (whole : ℕ) (w : IsWhole needs whole) where
   event-keeps taken state place NotCleared s once enabled allowed = s
   event-keeps taken state place NotReady s once enabled allowed = s
   event-keeps taken state place (Showed shown_place) s once enabled allowed = shows taken state s shown_place (once shown_place) enabled.0
-  event-keeps taken state place (Took value) s once enabled allowed =
+  event-keeps taken state place (AnswerTaken value) s once enabled allowed =
       let grant : value ≡ 0 = told taken state s place value enabled in
       subst (λ (n : ℕ). InTurns ((n == 0) || taken) (record state { shown = with_answer place None state.shown })) (sym grant)
       (took taken state s place (enabled ∙ ap (λ (n : ℕ). Some n) grant) (once place))
@@ -346,9 +346,9 @@ module _ (needs : Needs) (whole : ℕ) (w : IsWhole needs whole) where
   -- an event begins a turn only where none is taken
   begins-apart : (taken : Bool) (state : AbstractState) (place : ℕ) (event : Event) → InTurns taken state → IsEnabled needs state place event
       → IsOfTurns whole taken event → begins_turn event ≡ true → taken ≡ false
-  begins-apart taken state place (Got request) s enabled allowed begins =
+  begins-apart taken state place (Acquired request) s enabled allowed begins =
       at-rest taken state s (fits-none state.count request allowed enabled.2)
-  begins-apart taken state place (Took value) s enabled allowed begins =
+  begins-apart taken state place (AnswerTaken value) s enabled allowed begins =
       let grant : value ≡ 0 = told taken state s place value enabled in
       elim (cases_Bool taken) [
         | inl gone ↦ absurd ((s.gone gone).1 place (inr (enabled ∙ ap (λ (n : ℕ). Some n) grant)))

@@ -4,7 +4,7 @@ use Rattle.std.specs.Prelude.{◌≡◌, ℕ, true, ◌||◌, is_some}
 use Rattle.saa_core_words.specs.declared.word.Word.{Word}
 use Rattle.saa_word_steps.specs.declared.place.Stage.{Stage}
 use Rattle.saa_word_steps.specs.declared.place.Stage.TheVariants.{Take, FlagLoad, FlagExchange, PoisonLoad, PoisonExchange}
-use Rattle.saa_word_steps.specs.declared.place.Taking.TheVariants.{Awaits, Gives}
+use Rattle.saa_word_steps.specs.declared.place.PollMode.TheVariants.{Awaits, Gives}
 use Rattle.saa_word_steps.specs.AbstractState.{AbstractState, is_in}
 use Rattle.saa_word_proofs.specs.Rows.{IsOwnedAndFlagged}
 

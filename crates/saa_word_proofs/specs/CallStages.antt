@@ -6,31 +6,31 @@ use Rattle.saa_word_steps.specs.declared.call.WordCall.{WordCall}
 use Rattle.saa_word_steps.specs.declared.call.WordCall.TheVariants.{Release, Available, ReleaseLock, ReleaseShare, Downgrade, PoisonLock, ClearPoison, IsFree, IsLocked, IsShared, IsPoisoned, TryPoll, Poll, Cancel}
 use Rattle.saa_word_steps.specs.declared.call.Answer.{Answer}
 use Rattle.saa_word_steps.specs.declared.call.Answer.TheVariants.{Bool as Says}
-use Rattle.saa_word_steps.specs.declared.place.Given.{Given}
-use Rattle.saa_word_steps.specs.declared.place.Given.TheVariants.{Asked, AllButAShare}
-use Rattle.saa_word_steps.specs.declared.place.Back.{Back}
-use Rattle.saa_word_steps.specs.declared.place.Back.TheVariants.{Tells, Ends, Takes}
+use Rattle.saa_word_steps.specs.declared.place.ReleaseAmount.{ReleaseAmount}
+use Rattle.saa_word_steps.specs.declared.place.ReleaseAmount.TheVariants.{Requested, AllButAShare}
+use Rattle.saa_word_steps.specs.declared.place.AfterWalk.{AfterWalk}
+use Rattle.saa_word_steps.specs.declared.place.AfterWalk.TheVariants.{Tells, Ends, Takes}
 use Rattle.saa_word_steps.specs.declared.place.Reading.{Reading}
 use Rattle.saa_word_steps.specs.declared.place.Reading.TheVariants.{Available as ReadsAvailable, IsFree as ReadsFree, IsLocked as ReadsLocked, IsShared as ReadsShared, IsPoisoned as ReadsPoisoned}
 use Rattle.saa_word_steps.specs.declared.place.Registration.{Registration}
-use Rattle.saa_word_steps.specs.declared.place.Registration.TheVariants.{Once, Slot}
-use Rattle.saa_word_steps.specs.declared.place.Taking.{Taking}
-use Rattle.saa_word_steps.specs.declared.place.Taking.TheVariants.{Tries, Awaits, Gives}
+use Rattle.saa_word_steps.specs.declared.place.Registration.TheVariants.{AnsweredAtOnce, Queued}
+use Rattle.saa_word_steps.specs.declared.place.PollMode.{PollMode}
+use Rattle.saa_word_steps.specs.declared.place.PollMode.TheVariants.{Tries, Awaits, Gives}
 use Rattle.saa_word_steps.specs.declared.place.Stage.{Stage}
-use Rattle.saa_word_steps.specs.declared.place.Stage.TheVariants.{Quiet, ReadLoad, AskLoad, AskExchange, Prepare, Join, ReleaseLoad, ReleaseExchange, Take, FlagLoad, FlagExchange, LookLoad, LookStore, Unlink, DropTail, PoisonLoad, PoisonExchange, Clear}
+use Rattle.saa_word_steps.specs.declared.place.Stage.TheVariants.{Quiet, ReadLoad, AcquireLoad, AcquireExchange, Prepare, Join, ReleaseLoad, ReleaseExchange, Take, FlagLoad, FlagExchange, LookLoad, LookStore, Unlink, DropTail, PoisonLoad, PoisonExchange, Clear}
 use Rattle.saa_word_steps.specs.declared.place.Next.{Next}
 use Rattle.saa_word_steps.specs.declared.place.Next.TheVariants.{Going, Waits, Done}
 use Rattle.saa_word_steps.specs.Needs.{Needs}
 use Rattle.saa_word_steps.specs.declared.event.Event.{Event}
-use Rattle.saa_word_steps.specs.declared.event.Event.TheVariants.{Took}
+use Rattle.saa_word_steps.specs.declared.event.Event.TheVariants.{AnswerTaken}
 use Rattle.saa_word_steps.specs.Steps.{IsRanged, operation_of, word_at}
 use Rattle.saa_word_proofs.specs.Calls.{IsAnswered, IsCancelled, answer_named, asked_by, is_taken_up}
 
 -- what a call gives back, and what it reads
-abbrev pub given_by : WordCall → Option Given
-given_by (Release count) = Some (Asked count)
-given_by ReleaseLock = Some (Asked 0)
-given_by ReleaseShare = Some (Asked 1)
+abbrev pub given_by : WordCall → Option ReleaseAmount
+given_by (Release count) = Some (Requested count)
+given_by ReleaseLock = Some (Requested 0)
+given_by ReleaseShare = Some (Requested 1)
 given_by Downgrade = Some AllButAShare
 given_by _ = None
 
@@ -43,46 +43,46 @@ read_by IsPoisoned = Some ReadsPoisoned
 read_by _ = None
 
 -- a call that takes its answer
-abbrev pub taken_by : WordCall → Option Taking
+abbrev pub taken_by : WordCall → Option PollMode
 taken_by TryPoll = Some Tries
 taken_by Poll = Some Awaits
 taken_by _ = None
 
 -- a cancel that gives back what its registration was granted has named that it took its answer, where it waited for that
-abbrev pub IsGivingUp : Needs → Registration → Given → List Event → Type 0
-IsGivingUp needs (Slot request) given events = (given ≡ Asked request) × (needs.takes request ≢ 0) × (events ≡ Took granted_value ∷ [])
-IsGivingUp needs (Once value request) given events = (given ≡ Asked request) × (is_taken_up needs request value ≡ true) × (events ≡ [])
+abbrev pub IsGivingUp : Needs → Registration → ReleaseAmount → List Event → Type 0
+IsGivingUp needs (Queued request) given events = (given ≡ Requested request) × (needs.takes request ≢ 0) × (events ≡ AnswerTaken granted_value ∷ [])
+IsGivingUp needs (AnsweredAtOnce value request) given events = (given ≡ Requested request) × (is_taken_up needs request value ≡ true) × (events ≡ [])
 IsGivingUp needs _ given events = ⊥
 
 -- a call that gives something back, all but a share too, by what it does once it is done with the line
-abbrev pub IsReleasing : Needs → WordCall → Registration → Back → Given → List Event → Type 0
+abbrev pub IsReleasing : Needs → WordCall → Registration → AfterWalk → ReleaseAmount → List Event → Type 0
 IsReleasing needs call registered Tells given events = (given_by call ≡ Some given) × (events ≡ [])
 IsReleasing needs call registered Ends given events = (call ≡ Cancel) × IsGivingUp needs registered given events
 IsReleasing needs call registered (Takes request) given events = ⊥
 
 -- a place that works on the line or shows answers has given something back, or poisoned the lock, or left the line; or it takes its own answer
 -- next, and has named nothing
-abbrev pub IsWorking : Needs → WordCall → Registration → Back → List Event → Type 0
+abbrev pub IsWorking : Needs → WordCall → Registration → AfterWalk → List Event → Type 0
 IsWorking needs call registered Tells events = (event : Event) × (events ≡ event ∷ []) × (answer_named needs call event ≡ Some (Says true)) × (call ≢ Cancel)
 IsWorking needs call registered Ends events = (call ≡ Cancel) × IsCancelled needs registered events
-IsWorking needs call registered (Takes request) events = (call ≡ Cancel) × (registered ≡ Slot request) × (events ≡ [])
+IsWorking needs call registered (Takes request) events = (call ≡ Cancel) × (registered ≡ Queued request) × (events ≡ [])
 
 -- a cancel that is to leave the line has named nothing
-abbrev pub IsLeavingLine : WordCall → Registration → Back → List Event → Type 0
-IsLeavingLine call registered (Takes request) events = (call ≡ Cancel) × (registered ≡ Slot request) × (events ≡ [])
+abbrev pub IsLeavingLine : WordCall → Registration → AfterWalk → List Event → Type 0
+IsLeavingLine call registered (Takes request) events = (call ≡ Cancel) × (registered ≡ Queued request) × (events ≡ [])
 IsLeavingLine call registered _ events = ⊥
 
 -- a poll, or a cancel that takes its own answer
-abbrev pub IsTaking : WordCall → Registration → Taking → List Event → Type 0
-IsTaking call registered (Gives request) events = (call ≡ Cancel) × (registered ≡ Slot request) × (events ≡ [])
+abbrev pub IsTaking : WordCall → Registration → PollMode → List Event → Type 0
+IsTaking call registered (Gives request) events = (call ≡ Cancel) × (registered ≡ Queued request) × (events ≡ [])
 IsTaking call registered taking events = (taken_by call ≡ Some taking) × (events ≡ [])
 
 -- a call of a place that was registered so stands at a stage, and has named these events so far
-abbrev pub IsUnder : Needs → WordCall → Registration → Back → Stage → List Event → Type 0
+abbrev pub IsUnder : Needs → WordCall → Registration → AfterWalk → Stage → List Event → Type 0
 IsUnder needs call registered back Quiet events = ⊥
 IsUnder needs call registered back (ReadLoad reading) events = (read_by call ≡ Some reading) × (events ≡ [])
-IsUnder needs call registered back (AskLoad ask) events = (asked_by call ≡ Some ask) × (events ≡ [])
-IsUnder needs call registered back (AskExchange ask seen) events = (asked_by call ≡ Some ask) × (events ≡ [])
+IsUnder needs call registered back (AcquireLoad ask) events = (asked_by call ≡ Some ask) × (events ≡ [])
+IsUnder needs call registered back (AcquireExchange ask seen) events = (asked_by call ≡ Some ask) × (events ≡ [])
 IsUnder needs call registered back (Prepare request seen) events = (asked_by call ≡ Some (record { request = request; joins = true })) × (events ≡ [])
 IsUnder needs call registered back (Join request seen) events = (asked_by call ≡ Some (record { request = request; joins = true })) × (events ≡ [])
 IsUnder needs call registered back (ReleaseLoad given) events = IsReleasing needs call registered back given events
@@ -100,7 +100,7 @@ IsUnder needs call registered back Clear events = (call ≡ ClearPoison) × (eve
 IsUnder needs call registered back _ events = IsWorking needs call registered back events
 
 -- how a call that stood at a stage goes on: at another, where it was, or done with the answer that its events name
-abbrev pub IsUnderNext : Needs → WordCall → Registration → Back → Stage → List Event → Next → Type 0
+abbrev pub IsUnderNext : Needs → WordCall → Registration → AfterWalk → Stage → List Event → Next → Type 0
 IsUnderNext needs call registered back stage events (Going place) = IsUnder needs call registered place.back place.stage events
 IsUnderNext needs call registered back stage events Waits = IsUnder needs call registered back stage events
 IsUnderNext needs call registered back stage events (Done place answer) = IsAnswered needs call registered events answer

@@ -8,16 +8,16 @@ use Rattle.saa_word_steps.specs.declared.call.WordCall.TheVariants.{Try, Registe
 use Rattle.saa_word_steps.specs.declared.call.Answer.{Answer}
 use Rattle.saa_word_steps.specs.declared.call.Answer.TheVariants.{Bool as Says, Tried, Taken, Unit as Ended}
 use Rattle.saa_word_steps.specs.declared.place.Ask.{Ask}
-use Rattle.saa_word_steps.specs.declared.place.Given.{Given}
-use Rattle.saa_word_steps.specs.declared.place.Given.TheVariants.{Asked, AllButAShare}
+use Rattle.saa_word_steps.specs.declared.place.ReleaseAmount.{ReleaseAmount}
+use Rattle.saa_word_steps.specs.declared.place.ReleaseAmount.TheVariants.{Requested, AllButAShare}
 use Rattle.saa_word_steps.specs.declared.place.Reading.{Reading}
 use Rattle.saa_word_steps.specs.declared.place.Reading.TheVariants.{Available as ReadsAvailable, IsFree as ReadsFree, IsLocked as ReadsLocked, IsShared as ReadsShared, IsPoisoned as ReadsPoisoned}
 use Rattle.saa_word_steps.specs.declared.place.Registration.{Registration}
-use Rattle.saa_word_steps.specs.declared.place.Registration.TheVariants.{Once, Slot}
+use Rattle.saa_word_steps.specs.declared.place.Registration.TheVariants.{AnsweredAtOnce, Queued}
 use Rattle.saa_word_steps.specs.Needs.{Needs}
 use Rattle.saa_word_steps.specs.Readings.{mode_number, read_as, tried_answer}
 use Rattle.saa_word_steps.specs.declared.event.Event.{Event}
-use Rattle.saa_word_steps.specs.declared.event.Event.TheVariants.{Got, Refused, AskedPoisoned, Joined, Left, Gave, GaveNothing, Lowered, NotLowered, Poisoned, NotPoisoned, Cleared, NotCleared, NotReady, Took, Read}
+use Rattle.saa_word_steps.specs.declared.event.Event.TheVariants.{Acquired, Refused, AskedPoisoned, Joined, Cancelled, Released, ReleasedNothing, Lowered, NotLowered, Poisoned, NotPoisoned, Cleared, NotCleared, NotReady, AnswerTaken, Read}
 
 -- what a call asks for
 abbrev pub asked_by : WordCall → Option Ask
@@ -30,16 +30,16 @@ asked_by _ = None
 
 -- the answer that an event names for an ask: a registration is told that it was made
 abbrev pub ask_named : Needs → Ask → Event → Option Answer
-ask_named needs ask (Got request) = if request == ask.request then Some (if ask.joins then Says true else tried_answer needs true) else None
+ask_named needs ask (Acquired request) = if request == ask.request then Some (if ask.joins then Says true else tried_answer needs true) else None
 ask_named needs ask (Refused request) = if (request == ask.request) && not ask.joins then Some (tried_answer needs false) else None
 ask_named needs ask (Joined request) = if (request == ask.request) && ask.joins then Some (Says true) else None
 ask_named needs ask AskedPoisoned = Some (if ask.joins then Says true else Tried (try_answer false true))
 ask_named needs ask _ = None
 
 -- the answer that an event names for a release or a downgrade, a reading call and a poll
-abbrev pub release_named : Given → Event → Option Answer
-release_named (Asked given) (Gave request) = if request == given then Some (Says true) else None
-release_named (Asked given) (GaveNothing request) = if request == given then Some (Says false) else None
+abbrev pub release_named : ReleaseAmount → Event → Option Answer
+release_named (Requested given) (Released request) = if request == given then Some (Says true) else None
+release_named (Requested given) (ReleasedNothing request) = if request == given then Some (Says false) else None
 release_named AllButAShare Lowered = Some (Says true)
 release_named AllButAShare NotLowered = Some (Says false)
 release_named given _ = None
@@ -49,7 +49,7 @@ read_named needs reading (Read count poisoned) = Some (read_as needs reading cou
 read_named needs reading _ = None
 
 abbrev pub poll_named : Bool → Event → Option Answer
-poll_named tries (Took value) = Some (Taken (Ok (value == granted_value)))
+poll_named tries (AnswerTaken value) = Some (Taken (Ok (value == granted_value)))
 poll_named tries NotReady = if tries then Some (Taken (Err NotYet)) else None
 poll_named tries _ = None
 
@@ -68,13 +68,13 @@ clear_named _ = None
 abbrev pub answer_named : Needs → WordCall → Event → Option Answer
 answer_named needs (Try count) event = ask_named needs (record { request = count; joins = false }) event
 answer_named needs (Register count) event = ask_named needs (record { request = count; joins = true }) event
-answer_named needs (Release count) event = release_named (Asked count) event
+answer_named needs (Release count) event = release_named (Requested count) event
 answer_named needs Available event = read_named needs ReadsAvailable event
 answer_named needs TryLock event = ask_named needs (record { request = 0; joins = false }) event
 answer_named needs TryShare event = ask_named needs (record { request = 1; joins = false }) event
 answer_named needs (RegisterMode mode) event = ask_named needs (record { request = mode_number mode; joins = true }) event
-answer_named needs ReleaseLock event = release_named (Asked 0) event
-answer_named needs ReleaseShare event = release_named (Asked 1) event
+answer_named needs ReleaseLock event = release_named (Requested 0) event
+answer_named needs ReleaseShare event = release_named (Requested 1) event
 answer_named needs Downgrade event = release_named AllButAShare event
 answer_named needs PoisonLock event = poison_named event
 answer_named needs ClearPoison event = clear_named event
@@ -88,7 +88,7 @@ answer_named needs Cancel event = None
 
 -- a cancel that gives back what its registration was granted
 abbrev pub IsDropped : ℕ → List Event → Type 0
-IsDropped request events = (events ≡ Gave request ∷ []) ⊎ (events ≡ GaveNothing request ∷ [])
+IsDropped request events = (events ≡ Released request ∷ []) ⊎ (events ≡ ReleasedNothing request ∷ [])
 
 -- whether an answer of a registration took something, which a cancel gives back
 abbrev pub is_taken_up : Needs → ℕ → ℕ → Bool
@@ -97,11 +97,11 @@ is_taken_up needs request value = (value == granted_value) && not (needs.takes r
 -- what a cancel names, of a place that was registered so as it started. It leaves the line, or it takes its answer; what was granted and
 -- took something it gives back, where that is held still
 abbrev pub IsCancelled : Needs → Registration → List Event → Type 0
-IsCancelled needs (Slot request) events =
-    (events ≡ Left ∷ [])
-    ⊎ (((value : ℕ) × (events ≡ Took value ∷ []) × (is_taken_up needs request value ≡ false))
-    ⊎ ((needs.takes request ≢ 0) × ((rest : List Event) × (events ≡ Took granted_value ∷ rest) × IsDropped request rest)))
-IsCancelled needs (Once value request) events = (is_taken_up needs request value ≡ true) × IsDropped request events
+IsCancelled needs (Queued request) events =
+    (events ≡ Cancelled ∷ [])
+    ⊎ (((value : ℕ) × (events ≡ AnswerTaken value ∷ []) × (is_taken_up needs request value ≡ false))
+    ⊎ ((needs.takes request ≢ 0) × ((rest : List Event) × (events ≡ AnswerTaken granted_value ∷ rest) × IsDropped request rest)))
+IsCancelled needs (AnsweredAtOnce value request) events = (is_taken_up needs request value ≡ true) × IsDropped request events
 IsCancelled needs _ events = ⊥
 
 -- An answer is the one that a call's events name. A cancel is of a registration, and each other call names one event

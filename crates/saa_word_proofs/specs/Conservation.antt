@@ -5,7 +5,7 @@ use Rattle.saa_core_spec.specs.Values.{granted_value}
 use Rattle.saa_core_spec.specs.Object.{without}
 use Rattle.saa_word_steps.specs.Needs.{Needs}
 use Rattle.saa_word_steps.specs.declared.event.Event.{Event}
-use Rattle.saa_word_steps.specs.declared.event.Event.TheVariants.{Got, AskedPoisoned, Gave, Lowered, Granted, Poisoned, Cleared, Took}
+use Rattle.saa_word_steps.specs.declared.event.Event.TheVariants.{Acquired, AskedPoisoned, Released, Lowered, Granted, Poisoned, Cleared, AnswerTaken}
 use Rattle.saa_word_steps.specs.AbstractState.{AbstractState, after_event, opening, takes_of}
 
 -- What asks that were granted at once took, and what grants took whose answers were taken; what was given back; and the grants that
@@ -26,10 +26,10 @@ line_of_place place (asker ∷ rest) = if asker.0 == place then (asker ∷ line_
 
 -- the tally behind an event of a place, which happens to the object in this state
 abbrev pub after_counting : Needs → AbstractState → Tally → ℕ → Event → Tally
-after_counting needs state tally place (Got request) = record tally { got = tally.got + needs.takes request }
-after_counting needs state tally place (Gave request) = record tally { given = tally.given + needs.takes request }
+after_counting needs state tally place (Acquired request) = record tally { got = tally.got + needs.takes request }
+after_counting needs state tally place (Released request) = record tally { given = tally.given + needs.takes request }
 after_counting needs state tally place (Granted askers) = record tally { pending = tally.pending ++ take askers state.line }
-after_counting needs state tally place (Took value) =
+after_counting needs state tally place (AnswerTaken value) =
     record tally { got = tally.got + takes_of needs (line_of_place place tally.pending); pending = without place tally.pending }
 after_counting needs state tally place _ = tally
 
@@ -63,7 +63,7 @@ is_of_permits Poisoned = false
 is_of_permits AskedPoisoned = false
 is_of_permits Cleared = false
 is_of_permits Lowered = false
-is_of_permits (Took value) = value == granted_value
+is_of_permits (AnswerTaken value) = value == granted_value
 is_of_permits _ = true
 
 -- each of these events may be one of a semaphore

@@ -3,12 +3,12 @@ use Rattle.std.specs.Prelude.{ℕ, ◌≤◌}
 use Rattle.saa_word_steps.specs.declared.call.Answer.{Answer}
 use Rattle.saa_word_steps.specs.declared.call.WordCall.{WordCall}
 use Rattle.saa_word_steps.specs.Needs.{Needs}
-use Rattle.saa_word_proofs.specs.Alone.{Moment, IsCalledAlone}
+use Rattle.saa_word_proofs.specs.Alone.{Configuration, IsCalledAlone}
 
 -- a call that starts at a moment, and moves alone, is done within so many steps
-pub record Ends (needs : Needs) (places me : ℕ) (call : WordCall) (now : Moment) (most : ℕ) : Type 0 where
+pub record Ends (needs : Needs) (places me : ℕ) (call : WordCall) (now : Configuration) (most : ℕ) : Type 0 where
   pub steps : ℕ
   pub answer : Answer
-  pub last : Moment
+  pub last : Configuration
   pub called : IsCalledAlone needs places me call steps now answer last
   pub few : steps ≤ most

@@ -1,10 +1,10 @@
 -- Histories: lists of events, each with its place, and what they say of words and of each place. A reader of the clauses has to believe this.
 use Rattle.std.specs.Prelude.{◌≡◌, ℕ, Bool, true, false, not, ◌&&◌, ◌||◌, ◌==◌, if◌then◌else◌, List, [], ◌∷◌, ◌++◌}
 use Rattle.saa_word_steps.specs.declared.event.Event.{Event}
-use Rattle.saa_word_steps.specs.declared.event.Event.TheVariants.{Granted, Closed, Showed, Joined, Left, NotReady, Took}
+use Rattle.saa_word_steps.specs.declared.event.Event.TheVariants.{Granted, Closed, Showed, Joined, Cancelled, NotReady, AnswerTaken}
 use Rattle.saa_word_steps.specs.Needs.{Needs}
 use Rattle.saa_word_steps.specs.AbstractState.{AbstractState, IsRun, opening}
-use Rattle.saa_word_proofs.specs.Promises.{Observes}
+use Rattle.saa_word_proofs.specs.Promises.{WordsShow}
 
 -- the events of one place
 abbrev pub of_place : ℕ → List Event → List (ℕ × Event)
@@ -25,9 +25,9 @@ named (event ∷ rest) = if is_named event then (event ∷ named rest) else name
 -- whether an event is a waiter's: it joins the queue, takes its answer or finds that it isn't there yet, or leaves
 abbrev pub is_waiters : Event → Bool
 is_waiters (Joined request) = true
-is_waiters (Took value) = true
+is_waiters (AnswerTaken value) = true
 is_waiters NotReady = true
-is_waiters Left = true
+is_waiters Cancelled = true
 is_waiters _ = false
 
 abbrev pub never_waits : List Event → Bool
@@ -58,4 +58,4 @@ BeginsWith history seen = (rest : List (ℕ × Event)) × (history ≡ seen ++ r
 pub record LeadsTo (needs : Needs) (places withheld : ℕ) (history : List (ℕ × Event)) (row : ℕ → ℕ) : Type 0 where
   pub last : AbstractState
   pub run : IsRun needs (opening withheld) history last
-  pub shown : Observes needs places row last
+  pub shown : WordsShow needs places row last

@@ -4,7 +4,7 @@ use Rattle.std.specs.Prelude.{◌≡◌, ℕ, ◌+◌, ◌≤◌, Bool, true, fa
 use Rattle.saa_core_spec.specs.Values.{granted_value, poisoned_value}
 use Rattle.saa_core_spec.specs.Object.{one_if, times, without}
 use Rattle.saa_word_steps.specs.declared.event.Event.{Event}
-use Rattle.saa_word_steps.specs.declared.event.Event.TheVariants.{Joined, Left, Granted, Poisoned, Showed, Took}
+use Rattle.saa_word_steps.specs.declared.event.Event.TheVariants.{Joined, Cancelled, Granted, Poisoned, Showed, AnswerTaken}
 use Rattle.saa_word_proofs.specs.History.{part_of}
 
 -- A waiter is a place with the number of what it asks. A queue is a list of waiters, oldest first
@@ -13,7 +13,7 @@ use Rattle.saa_word_proofs.specs.History.{part_of}
 -- and poison dequeues all
 abbrev pub queue_after : List (ℕ × ℕ) → ℕ → Event → List (ℕ × ℕ)
 queue_after queue place (Joined request) = queue ++ (place, request) ∷ []
-queue_after queue place Left = without place queue
+queue_after queue place Cancelled = without place queue
 queue_after queue place (Granted askers) = drop askers queue
 queue_after queue place Poisoned = []
 queue_after queue place _ = queue
@@ -67,7 +67,7 @@ values_of place (answer ∷ rest) = if answer.waiter.0 == place then (answer.val
 -- whether a place that has joined cancels, as its later events say: it leaves before it joins again
 abbrev pub cancels : List Event → Bool
 cancels [] = false
-cancels (Left ∷ later) = true
+cancels (Cancelled ∷ later) = true
 cancels (Joined request ∷ later) = false
 cancels (event ∷ later) = cancels later
 
@@ -80,7 +80,7 @@ joins (event ∷ later) = joins later
 -- the values of the answers that a place takes among its events, in their order
 abbrev pub taken : List Event → List ℕ
 taken [] = []
-taken (Took value ∷ later) = value ∷ taken later
+taken (AnswerTaken value ∷ later) = value ∷ taken later
 taken (event ∷ later) = taken later
 
 -- the waiter that an event of a place enqueues, unless the place cancels among its later events

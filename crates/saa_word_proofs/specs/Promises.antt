@@ -5,7 +5,7 @@ use Rattle.saa_core_words.specs.Words.{answer_number, count_bits, word_number}
 use Rattle.saa_word_steps.specs.declared.place.Place.{Place}
 use Rattle.saa_word_steps.specs.declared.place.Registration.TheVariants.{Idle}
 use Rattle.saa_word_steps.specs.declared.place.Stage.TheVariants.{Quiet}
-use Rattle.saa_word_steps.specs.declared.place.Back.TheVariants.{Tells}
+use Rattle.saa_word_steps.specs.declared.place.AfterWalk.TheVariants.{Tells}
 use Rattle.saa_word_steps.specs.Needs.{Needs}
 use Rattle.saa_word_steps.specs.Readings.{poisoned_word}
 use Rattle.saa_word_steps.specs.AbstractState.{AbstractState, IsSettledAt, held_by}
@@ -20,9 +20,9 @@ abbrev pub opening_row : ℕ → ℕ → ℕ
 opening_row count index = if index == 0 then count else 0
 
 -- these places are met along older neighbours from a link, and nobody behind them
-abbrev pub IsMet : (ℕ → LineWord) → ℕ → List ℕ → Type 0
-IsMet words link [] = link ≡ 0
-IsMet words link (place ∷ rest) = (link ≡ place + 1) × IsMet words (words place).older rest
+abbrev pub IsChain : (ℕ → LineWord) → ℕ → List ℕ → Type 0
+IsChain words link [] = link ≡ 0
+IsChain words link (place ∷ rest) = (link ≡ place + 1) × IsChain words (words place).older rest
 
 -- the places of a line, newest first
 abbrev pub newest_first : List (ℕ × ℕ) → List ℕ
@@ -38,21 +38,21 @@ AreAsking words (asker ∷ rest) = ((words asker.0).request ≡ asker.1) × AreA
 -- waiter what it asks. The main word has no bits beyond those of the tail, and that of a poisoned lock is one number. While the flag is
 -- clear the places met along older neighbours from the tail are the line, newest first, the state isn't open, and its line is settled. No
 -- more is held than there ever is, and no place waits twice, or waits and has an answer
-pub record Observes (needs : Needs) (places : ℕ) (row : ℕ → ℕ) (state : AbstractState) : Type 0 where
+pub record WordsShow (needs : Needs) (places : ℕ) (row : ℕ → ℕ) (state : AbstractState) : Type 0 where
   pub count : (main_of row).count ≡ state.count
   pub poisoned : (main_of row).is_poisoned ≡ state.poisoned
   pub whole : row 0 < 2 ^ (count_bits + 18)
   pub exact : state.poisoned ≡ true → row 0 ≡ word_number count_bits poisoned_word
   pub requests : AreAsking (line_of row) state.line
   pub shown : (place : ℕ) → place < places → row (places + place + 1) ≡ answer_number (state.shown place)
-  pub line : (main_of row).is_flagged ≡ false → IsMet (line_of row) (main_of row).tail (newest_first state.line)
+  pub line : (main_of row).is_flagged ≡ false → IsChain (line_of row) (main_of row).tail (newest_first state.line)
   pub closed : (main_of row).is_flagged ≡ false → state.unclosed ≡ false
   pub settled : (main_of row).is_flagged ≡ false → IsSettledAt needs state.count state.line
   pub bounded : state.count ≤ needs.top
   pub once : (place : ℕ) → held_by place state ≤ 1
 
 -- The flag is clear, no answer is due, the object isn't open, its line is settled, and the line words link all waiters
-pub record IsAtRest (needs : Needs) (row : ℕ → ℕ) (state : AbstractState) : Type 0 where
+pub record WordsAreQuiescent (needs : Needs) (row : ℕ → ℕ) (state : AbstractState) : Type 0 where
   pub clear : (main_of row).is_flagged ≡ false
   pub paid : (place : ℕ) → state.due place ≡ None
   pub closed : state.unclosed ≡ false

@@ -11,13 +11,13 @@ use Rattle.saa_core_words.specs.declared.line_word.LineWord.{LineWord}
 use Rattle.saa_core_words.specs.Words.{count_bits, word_of, answer_number, lock_count}
 use Rattle.saa_word_steps.specs.declared.place.Place.{Place}
 use Rattle.saa_word_steps.specs.declared.place.Registration.{Registration}
-use Rattle.saa_word_steps.specs.declared.place.Registration.TheVariants.{Slot}
-use Rattle.saa_word_steps.specs.declared.place.Back.{Back}
-use Rattle.saa_word_steps.specs.declared.place.Back.TheVariants.{Takes}
-use Rattle.saa_word_steps.specs.declared.place.Taking.TheVariants.{Gives}
-use Rattle.saa_word_steps.specs.declared.place.Afterwards.TheVariants.{Again}
+use Rattle.saa_word_steps.specs.declared.place.Registration.TheVariants.{Queued}
+use Rattle.saa_word_steps.specs.declared.place.AfterWalk.{AfterWalk}
+use Rattle.saa_word_steps.specs.declared.place.AfterWalk.TheVariants.{Takes}
+use Rattle.saa_word_steps.specs.declared.place.PollMode.TheVariants.{Gives}
+use Rattle.saa_word_steps.specs.declared.place.AfterShow.TheVariants.{Again}
 use Rattle.saa_word_steps.specs.declared.place.Stage.{Stage}
-use Rattle.saa_word_steps.specs.declared.place.Stage.TheVariants.{AskLoad, AskExchange, Prepare, Join, ReleaseLoad, ReleaseExchange, BackLoad, BackStore, Forward, CutToClose, CutToGoRound, Close, Empty, GoRound, ShowLoad, ShowStore, Take, FlagLoad, FlagExchange, LookLoad, LookStore, Unlink, DropTail, PoisonLoad, PoisonExchange}
+use Rattle.saa_word_steps.specs.declared.place.Stage.TheVariants.{AcquireLoad, AcquireExchange, Prepare, Join, ReleaseLoad, ReleaseExchange, BackLoad, BackStore, Forward, CutToClose, CutForRetry, Close, Empty, Retry, ShowLoad, ShowStore, Take, FlagLoad, FlagExchange, LookLoad, LookStore, Unlink, DropTail, PoisonLoad, PoisonExchange}
 use Rattle.saa_word_steps.specs.Needs.{Needs, fits_count}
 use Rattle.saa_word_steps.specs.AbstractState.{AbstractState, IsFront, IsSettledAt, is_empty, is_in, takes_of, held_by}
 use Rattle.saa_word_steps.specs.Steps.{IsRanged, left_from}
@@ -46,10 +46,10 @@ is_holder (BackLoad seen current newer) = true
 is_holder (BackStore seen current newer line) = true
 is_holder (Forward seen current count) = true
 is_holder (CutToClose seen current count line) = true
-is_holder (CutToGoRound seen current count line) = true
+is_holder (CutForRetry seen current count line) = true
 is_holder (Close seen count top) = true
 is_holder (Empty seen current count line) = true
-is_holder (GoRound seen count top) = true
+is_holder (Retry seen count top) = true
 is_holder (LookLoad seen current newer previous) = true
 is_holder (LookStore seen current newer line) = true
 is_holder (Unlink seen newer line older) = true
@@ -60,8 +60,8 @@ is_holder _ = false
 
 -- whether a place is to join the line, or to ask so that it would
 abbrev pub joins_line : Stage → Bool
-joins_line (AskLoad ask) = ask.joins
-joins_line (AskExchange ask seen) = ask.joins
+joins_line (AcquireLoad ask) = ask.joins
+joins_line (AcquireExchange ask seen) = ask.joins
 joins_line (Prepare request seen) = true
 joins_line (Join request seen) = true
 joins_line _ = false
@@ -88,66 +88,66 @@ abbrev pub waits_behind : Needs → Word → ℕ → Bool
 waits_behind needs seen request = not (seen.tail == 0) || not (fits_count needs seen.count request)
 
 -- whether a place takes its own answer once it is done with the line
-abbrev pub takes_back : Back → Bool
+abbrev pub takes_back : AfterWalk → Bool
 takes_back (Takes request) = true
 takes_back _ = false
 
 -- a place that takes its own answer once it is done with the line is registered in it
-abbrev pub IsReturning : Registration → Back → Type 0
-IsReturning registration (Takes request) = registration ≡ Slot request
+abbrev pub IsReturning : Registration → AfterWalk → Type 0
+IsReturning registration (Takes request) = registration ≡ Queued request
 IsReturning registration _ = Unit {0}
 
 -- a cancel is of a place that is registered in the line, and takes its own answer where it isn't found there
-abbrev pub IsLeaving : Registration → Back → Type 0
-IsLeaving registration (Takes request) = registration ≡ Slot request
+abbrev pub IsLeaving : Registration → AfterWalk → Type 0
+IsLeaving registration (Takes request) = registration ≡ Queued request
 IsLeaving registration _ = ⊥
 
 -- what a place remembers fits together, whatever stands in the words
-abbrev pub IsAlone : Needs → Registration → Back → Stage → Type 0
-IsAlone needs registration back (AskLoad ask) = (ask.request < 65536) × (ask.joins ≡ true → is_slot registration ≡ false)
-IsAlone needs registration back (AskExchange ask seen) =
+abbrev pub IsLocallyTrue : Needs → Registration → AfterWalk → Stage → Type 0
+IsLocallyTrue needs registration back (AcquireLoad ask) = (ask.request < 65536) × (ask.joins ≡ true → is_slot registration ≡ false)
+IsLocallyTrue needs registration back (AcquireExchange ask seen) =
     (ask.request < 65536) × (ask.joins ≡ true → is_slot registration ≡ false) × ((seen.tail == 0) ≡ true) × (seen.is_poisoned ≡ false)
-IsAlone needs registration back (Prepare request seen) =
+IsLocallyTrue needs registration back (Prepare request seen) =
     (request < 65536) × (is_slot registration ≡ false) × (seen.tail < 65536) × (waits_behind needs seen request ≡ true) × (seen.is_poisoned ≡ false)
-IsAlone needs registration back (Join request seen) =
+IsLocallyTrue needs registration back (Join request seen) =
     (request < 65536) × (is_slot registration ≡ false) × (seen.tail < 65536) × (waits_behind needs seen request ≡ true) × (seen.is_poisoned ≡ false)
-IsAlone needs registration back (ReleaseLoad given) = takes_back back ≡ false
-IsAlone needs registration back (ReleaseExchange given seen) =
+IsLocallyTrue needs registration back (ReleaseLoad given) = takes_back back ≡ false
+IsLocallyTrue needs registration back (ReleaseExchange given seen) =
     (seen.tail < 65536) × ((left : ℕ) × (left_from needs seen.count given ≡ Some left)) × (seen.is_poisoned ≡ false) × (takes_back back ≡ false)
-IsAlone needs registration back (BackLoad seen current newer) = IsReturning registration back
-IsAlone needs registration back (BackStore seen current newer line) = IsReturning registration back
-IsAlone needs registration back (Forward seen current count) = IsReturning registration back
-IsAlone needs registration back (CutToClose seen current count line) = IsReturning registration back
-IsAlone needs registration back (CutToGoRound seen current count line) = IsReturning registration back
-IsAlone needs registration back (Close seen count top) = (seen.tail < 65536) × IsReturning registration back
-IsAlone needs registration back (Empty seen current count line) = (seen.tail < 65536) × IsReturning registration back
-IsAlone needs registration back (GoRound seen count top) = IsReturning registration back
-IsAlone needs registration back (ShowLoad current value afterwards) = IsReturning registration back
-IsAlone needs registration back (ShowStore current next value afterwards) = IsReturning registration back
-IsAlone needs registration back (Take (Gives request)) = registration ≡ Slot request
-IsAlone needs registration back (Take taking) = is_slot registration ≡ true
-IsAlone needs registration back FlagLoad = IsLeaving registration back
-IsAlone needs registration back (FlagExchange seen) =
+IsLocallyTrue needs registration back (BackLoad seen current newer) = IsReturning registration back
+IsLocallyTrue needs registration back (BackStore seen current newer line) = IsReturning registration back
+IsLocallyTrue needs registration back (Forward seen current count) = IsReturning registration back
+IsLocallyTrue needs registration back (CutToClose seen current count line) = IsReturning registration back
+IsLocallyTrue needs registration back (CutForRetry seen current count line) = IsReturning registration back
+IsLocallyTrue needs registration back (Close seen count top) = (seen.tail < 65536) × IsReturning registration back
+IsLocallyTrue needs registration back (Empty seen current count line) = (seen.tail < 65536) × IsReturning registration back
+IsLocallyTrue needs registration back (Retry seen count top) = IsReturning registration back
+IsLocallyTrue needs registration back (ShowLoad current value afterwards) = IsReturning registration back
+IsLocallyTrue needs registration back (ShowStore current next value afterwards) = IsReturning registration back
+IsLocallyTrue needs registration back (Take (Gives request)) = registration ≡ Queued request
+IsLocallyTrue needs registration back (Take taking) = is_slot registration ≡ true
+IsLocallyTrue needs registration back FlagLoad = IsLeaving registration back
+IsLocallyTrue needs registration back (FlagExchange seen) =
     IsLeaving registration back × (seen.tail < 65536) × ((seen.tail == 0) ≡ false) × (seen.is_flagged ≡ false)
-IsAlone needs registration back (LookLoad seen current newer previous) = IsLeaving registration back
-IsAlone needs registration back (LookStore seen current newer line) = IsLeaving registration back
-IsAlone needs registration back (Unlink seen newer line older) = IsLeaving registration back
-IsAlone needs registration back (DropTail seen older) = IsLeaving registration back × (seen.tail < 65536)
-IsAlone needs registration back PoisonLoad = (needs.is_lock ≡ true) × (takes_back back ≡ false)
-IsAlone needs registration back (PoisonExchange seen) =
+IsLocallyTrue needs registration back (LookLoad seen current newer previous) = IsLeaving registration back
+IsLocallyTrue needs registration back (LookStore seen current newer line) = IsLeaving registration back
+IsLocallyTrue needs registration back (Unlink seen newer line older) = IsLeaving registration back
+IsLocallyTrue needs registration back (DropTail seen older) = IsLeaving registration back × (seen.tail < 65536)
+IsLocallyTrue needs registration back PoisonLoad = (needs.is_lock ≡ true) × (takes_back back ≡ false)
+IsLocallyTrue needs registration back (PoisonExchange seen) =
     (needs.is_lock ≡ true) × (takes_back back ≡ false) × (seen.tail < 65536) × (seen.count ≡ lock_count Exclusive) × (seen.is_flagged ≡ false) × (seen.is_poisoned ≡ false)
-IsAlone needs registration back _ = Unit {0}
+IsLocallyTrue needs registration back _ = Unit {0}
 
 -- whether a place takes its own answer next, or once it is done with the line, since it didn't find itself in that
-abbrev pub gives_up : Back → Stage → Bool
+abbrev pub gives_up : AfterWalk → Stage → Bool
 gives_up back (BackLoad seen current newer) = takes_back back
 gives_up back (BackStore seen current newer line) = takes_back back
 gives_up back (Forward seen current count) = takes_back back
 gives_up back (CutToClose seen current count line) = takes_back back
-gives_up back (CutToGoRound seen current count line) = takes_back back
+gives_up back (CutForRetry seen current count line) = takes_back back
 gives_up back (Close seen count top) = takes_back back
 gives_up back (Empty seen current count line) = takes_back back
-gives_up back (GoRound seen count top) = takes_back back
+gives_up back (Retry seen count top) = takes_back back
 gives_up back (ShowLoad current value afterwards) = takes_back back
 gives_up back (ShowStore current next value afterwards) = takes_back back
 gives_up back (Take (Gives request)) = true
@@ -207,7 +207,7 @@ IsHolding needs words me held line cut (Forward seen current count) =
 IsHolding needs words me held line cut (CutToClose seen current count word) =
     (work : Work held line seen) × (cut ≡ []) × IsAdded needs seen work.front count × IsAt words work.behind current
     × (word ≡ words (pred current)) × (fits_count needs count word.request ≡ false)
-IsHolding needs words me held line cut (CutToGoRound seen current count word) =
+IsHolding needs words me held line cut (CutForRetry seen current count word) =
     (work : Work held line seen) × (cut ≡ []) × IsAdded needs seen work.front count × IsAt words work.behind current
     × (word ≡ words (pred current))
 IsHolding needs words me held line cut (Close seen count top) =
@@ -218,7 +218,7 @@ IsHolding needs words me held line cut (Empty seen current count word) =
     × (word ≡ words (pred current)) × (seen.tail ≡ current)
     × (fits_count needs (seen.count + takes_of needs work.front) word.request ≡ true)
     × (count ≡ seen.count + takes_of needs work.front + needs.takes word.request)
-IsHolding needs words me held line cut (GoRound seen count top) =
+IsHolding needs words me held line cut (Retry seen count top) =
     (work : Work held line seen) × (cut ≡ work.front) × IsAdded needs seen work.front count × (top ≡ newest 0 work.front)
     × (is_empty work.behind ≡ false)
 IsHolding needs words me held line cut (ShowLoad current value (Again seen)) =
@@ -282,7 +282,7 @@ pub record AreDebts (words : ℕ → LineWord) (due : ℕ → Option ℕ) (grant
 pub record AreStages (needs : Needs) (words : ℕ → LineWord) (standing : ℕ → Place) (held : ℕ) (line cut : List (ℕ × ℕ)) (holder : ℕ)
     (owed : ℕ → List (ℕ × ℕ)) (answer_value : ℕ → ℕ) : Type 0 where
   pub ranged : (place : ℕ) → IsRanged needs (standing place).stage
-  pub alone : (place : ℕ) → IsAlone needs (standing place).registration (standing place).back (standing place).stage
+  pub alone : (place : ℕ) → IsLocallyTrue needs (standing place).registration (standing place).back (standing place).stage
   pub apart : (place : ℕ) → gives_up (standing place).back (standing place).stage ≡ true → is_in place line ≡ false
   pub own : (place : ℕ) → IsOwn (words place) (standing place).stage
   pub showing : (place : ℕ) → IsShowing (owed place) (answer_value place) (standing place).stage
@@ -290,7 +290,7 @@ pub record AreStages (needs : Needs) (words : ℕ → LineWord) (standing : ℕ 
   pub holding : (place : ℕ) → holder ≡ place + 1 → IsHolding needs words place held line cut (standing place).stage
 
 -- So many places, a row of words and the abstract state stand together
-pub record Refines (needs : Needs) (places : ℕ) (row : ℕ → ℕ) (standing : ℕ → Place) (state : AbstractState) : Type 0 where
+pub record Invariant (needs : Needs) (places : ℕ) (row : ℕ → ℕ) (standing : ℕ → Place) (state : AbstractState) : Type 0 where
   pub holder : ℕ
   pub cut : List (ℕ × ℕ)
   pub uncut : List (ℕ × ℕ)

@@ -24,7 +24,7 @@ use Rattle.saa_core_spec.specs.Values.{lock_value}
 use Rattle.saa_core_spec.specs.Run.{done}
 use Rattle.saa_core_words.specs.Words.{permits_of}
 use Rattle.saa_word_steps.specs.declared.place.Registration.{Registration}
-use Rattle.saa_word_steps.specs.declared.place.Registration.TheVariants.{Idle as IsIdle, Once, Slot}
+use Rattle.saa_word_steps.specs.declared.place.Registration.TheVariants.{Idle as IsIdle, AnsweredAtOnce, Queued}
 use Rattle.saa_word_steps.specs.declared.call.Answer.{Answer}
 use Rattle.saa_word_steps.specs.declared.call.Answer.TheVariants.{Bool as Says, Number, Tried, Taken, Unit as SaysNothing}
 use Rattle.saa_word_steps.specs.declared.call.WordCall.{WordCall}
@@ -40,9 +40,9 @@ waiters needs (asker ∷ rest) = (asker.0, needs.read asker.1) ∷ waiters needs
 -- the entry of a place by what it is registered as and the answer that is shown to it: a place that joined the line waits until there is one
 abbrev pub entry_of : Needs → Registration → Option ℕ → (is_sync : Bool) → Entry
 entry_of needs IsIdle shown is_sync = Idle
-entry_of needs (Once value request) shown is_sync = Answered value (needs.read request) is_sync false
-entry_of needs (Slot request) None is_sync = Waiting (needs.read request) is_sync
-entry_of needs (Slot request) (Some value) is_sync = Answered value (needs.read request) is_sync true
+entry_of needs (AnsweredAtOnce value request) shown is_sync = Answered value (needs.read request) is_sync false
+entry_of needs (Queued request) None is_sync = Waiting (needs.read request) is_sync
+entry_of needs (Queued request) (Some value) is_sync = Answered value (needs.read request) is_sync true
 
 -- what the abstract state holds: what it counts, where it isn't poisoned
 abbrev pub held_at : Needs → AbstractState → Held

@@ -6,12 +6,12 @@ use Rattle.std.specs.Prelude.{◌≡◌, ℕ, suc, zero, ◌+◌, ◌-◌, ◌*�
 use Rattle.saa_core_words.specs.declared.word.Word.{Word}
 use Rattle.saa_core_words.specs.Words.{count_bits, word_number, word_of, line_word_of}
 use Rattle.saa_word_steps.specs.declared.place.Place.{Place}
-use Rattle.saa_word_steps.specs.declared.place.Afterwards.{Afterwards}
-use Rattle.saa_word_steps.specs.declared.place.Afterwards.TheVariants.{Ends, Again}
-use Rattle.saa_word_steps.specs.declared.place.Back.{Back}
-use Rattle.saa_word_steps.specs.declared.place.Taking.TheVariants.{Gives}
+use Rattle.saa_word_steps.specs.declared.place.AfterShow.{AfterShow}
+use Rattle.saa_word_steps.specs.declared.place.AfterShow.TheVariants.{Ends, Again}
+use Rattle.saa_word_steps.specs.declared.place.AfterWalk.{AfterWalk}
+use Rattle.saa_word_steps.specs.declared.place.PollMode.TheVariants.{Gives}
 use Rattle.saa_word_steps.specs.declared.place.Stage.{Stage}
-use Rattle.saa_word_steps.specs.declared.place.Stage.TheVariants.{Quiet, ReadLoad, AskLoad, AskExchange, Prepare, Join, ReleaseLoad, ReleaseExchange, BackLoad, BackStore, Forward, CutToClose, CutToGoRound, Close, Empty, GoRound, ShowLoad, ShowStore, Take, FlagLoad, FlagExchange, LookLoad, LookStore, Unlink, DropTail, PoisonLoad, PoisonExchange, Clear}
+use Rattle.saa_word_steps.specs.declared.place.Stage.TheVariants.{Quiet, ReadLoad, AcquireLoad, AcquireExchange, Prepare, Join, ReleaseLoad, ReleaseExchange, BackLoad, BackStore, Forward, CutToClose, CutForRetry, Close, Empty, Retry, ShowLoad, ShowStore, Take, FlagLoad, FlagExchange, LookLoad, LookStore, Unlink, DropTail, PoisonLoad, PoisonExchange, Clear}
 use Rattle.saa_word_steps.specs.declared.place.Next.{Next}
 use Rattle.saa_word_steps.specs.declared.place.Next.TheVariants.{Going, Waits, Done}
 use Rattle.saa_word_steps.specs.Needs.{Needs}
@@ -43,24 +43,24 @@ waiting ways number = ways (word_of count_bits number).tail
 
 -- what is left besides of a call that takes its own answer once it is done with the line, and gives back what it was granted: where it has to grant
 -- and show first, and where it is done with that; so many wait then
-abbrev pub more_to_walk : Back → ℕ → ℕ
+abbrev pub more_to_walk : AfterWalk → ℕ → ℕ
 more_to_walk back waiting = if takes_back back then 3 * waiting + 5 else 0
 
-abbrev pub more_to_end : Back → ℕ → ℕ
+abbrev pub more_to_end : AfterWalk → ℕ → ℕ
 more_to_end back waiting = if takes_back back then 5 * waiting + 5 else 0
 
 -- what is left behind the last answer that is shown: to end, or to walk once more
-abbrev pub left_afterwards : (ℕ → ℕ) → ℕ → Back → Afterwards → ℕ
+abbrev pub left_afterwards : (ℕ → ℕ) → ℕ → AfterWalk → AfterShow → ℕ
 left_afterwards ways number back Ends = more_to_end back (waiting ways number)
 left_afterwards ways number back (Again seen) =
     by_seen number seen (5 * waiting ways number + 2) (3 * ways seen.tail + 5 * waiting ways number + 6) + more_to_walk back (waiting ways number)
 
 -- how many steps are left at a stage, by how many places are met from each link and by the main word's number
-abbrev pub steps_left : (ℕ → ℕ) → ℕ → Back → Stage → ℕ
+abbrev pub steps_left : (ℕ → ℕ) → ℕ → AfterWalk → Stage → ℕ
 steps_left ways number back Quiet = 0
 steps_left ways number back (ReadLoad reading) = 1
-steps_left ways number back (AskLoad ask) = 3
-steps_left ways number back (AskExchange ask seen) = by_seen number seen 1 3
+steps_left ways number back (AcquireLoad ask) = 3
+steps_left ways number back (AcquireExchange ask seen) = by_seen number seen 1 3
 steps_left ways number back (Prepare request seen) = by_seen number seen 2 4
 steps_left ways number back (Join request seen) = by_seen number seen 1 3
 steps_left ways number back (ReleaseLoad given) = 5 * waiting ways number + 4
@@ -76,13 +76,13 @@ steps_left ways number back (Forward seen current count) =
     + more_to_walk back (waiting ways number)
 steps_left ways number back (CutToClose seen current count line) =
     by_seen number seen (2 * waiting ways number + 2) (5 * waiting ways number + 5) + more_to_walk back (waiting ways number)
-steps_left ways number back (CutToGoRound seen current count line) = 5 * waiting ways number + 4 + more_to_walk back (waiting ways number)
+steps_left ways number back (CutForRetry seen current count line) = 5 * waiting ways number + 4 + more_to_walk back (waiting ways number)
 steps_left ways number back (Close seen count top) =
     by_seen number seen (2 * ways top + 1 + more_to_end back (waiting ways number))
     (5 * waiting ways number + 5 * ways top + 4 + more_to_walk back (waiting ways number + ways top))
 steps_left ways number back (Empty seen current count line) =
     by_seen number seen (2 * ways current + 1 + more_to_end back 0) (5 * waiting ways number + 5 + more_to_walk back (waiting ways number))
-steps_left ways number back (GoRound seen count top) =
+steps_left ways number back (Retry seen count top) =
     5 * waiting ways number + 2 * ways top + 3 + more_to_walk back (waiting ways number)
 steps_left ways number back (ShowLoad current value afterwards) = 2 * ways current + left_afterwards ways number back afterwards
 steps_left ways number back (ShowStore current next value afterwards) = 2 * ways next + 1 + left_afterwards ways number back afterwards
@@ -102,7 +102,7 @@ steps_left ways number back (PoisonExchange seen) = by_seen number seen (2 * wai
 steps_left ways number back Clear = 1
 
 -- the step bound of a place on a row of numbers, by what it does once it is done with the line and by its stage
-abbrev pub step_bound : ℕ → (ℕ → ℕ) → Back → Stage → ℕ
+abbrev pub step_bound : ℕ → (ℕ → ℕ) → AfterWalk → Stage → ℕ
 step_bound places row back stage = steps_left (way places row) (row 0) back stage
 
 -- how a call goes on takes fewer steps than these; there is at least one, also where it is done or waits

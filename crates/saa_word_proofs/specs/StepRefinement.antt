@@ -5,23 +5,23 @@ use Rattle.saa_core_spec.specs.Held.{Exclusive}
 use Rattle.saa_core_words.specs.declared.word.Word.{Word}
 use Rattle.saa_core_words.specs.Words.{count_bits, word_number, word_of, answer_of, lock_count}
 use Rattle.saa_word_steps.specs.declared.place.Place.{Place}
-use Rattle.saa_word_steps.specs.declared.place.Given.{Given}
-use Rattle.saa_word_steps.specs.declared.place.Given.TheVariants.{Asked, AllButAShare}
-use Rattle.saa_word_steps.specs.declared.place.Taking.{Taking}
-use Rattle.saa_word_steps.specs.declared.place.Taking.TheVariants.{Tries, Awaits, Gives}
+use Rattle.saa_word_steps.specs.declared.place.ReleaseAmount.{ReleaseAmount}
+use Rattle.saa_word_steps.specs.declared.place.ReleaseAmount.TheVariants.{Requested, AllButAShare}
+use Rattle.saa_word_steps.specs.declared.place.PollMode.{PollMode}
+use Rattle.saa_word_steps.specs.declared.place.PollMode.TheVariants.{Tries, Awaits, Gives}
 use Rattle.saa_word_steps.specs.declared.place.Stage.{Stage}
-use Rattle.saa_word_steps.specs.declared.place.Stage.TheVariants.{ReadLoad, AskLoad, AskExchange, Join, ReleaseLoad, ReleaseExchange, Take, Unlink, DropTail, PoisonLoad, PoisonExchange, Clear}
+use Rattle.saa_word_steps.specs.declared.place.Stage.TheVariants.{ReadLoad, AcquireLoad, AcquireExchange, Join, ReleaseLoad, ReleaseExchange, Take, Unlink, DropTail, PoisonLoad, PoisonExchange, Clear}
 use Rattle.saa_word_steps.specs.declared.place.Next.{Next}
 use Rattle.saa_word_steps.specs.declared.place.Next.TheVariants.{Going, Waits, Done}
 use Rattle.saa_word_steps.specs.declared.operation.Operation.{Operation}
 use Rattle.saa_word_steps.specs.Needs.{Needs}
 use Rattle.saa_word_steps.specs.declared.event.Event.{Event}
-use Rattle.saa_word_steps.specs.declared.event.Event.TheVariants.{Got, Refused, AskedPoisoned, Joined, Left, Gave, GaveNothing, Lowered, NotLowered, NotReady, Poisoned, NotPoisoned, Cleared, NotCleared, Took, Read}
+use Rattle.saa_word_steps.specs.declared.event.Event.TheVariants.{Acquired, Refused, AskedPoisoned, Joined, Cancelled, Released, ReleasedNothing, Lowered, NotLowered, NotReady, Poisoned, NotPoisoned, Cleared, NotCleared, AnswerTaken, Read}
 use Rattle.saa_word_steps.specs.AbstractState.{AbstractState, IsRun}
 use Rattle.saa_word_steps.specs.Steps.{left_from, word_at, written_by, operation_of, next_of}
 use Rattle.saa_word_steps.specs.Readings.{poisoned_word}
 use Rattle.saa_word_proofs.specs.History.{named, of_place}
-use Rattle.saa_word_proofs.specs.Refinement.{Refines, waits_behind}
+use Rattle.saa_word_proofs.specs.Refinement.{Invariant, waits_behind}
 use Rattle.saa_word_proofs.specs.Rows.{updated}
 
 -- nothing is poisoned by these
@@ -37,28 +37,28 @@ decided_events needs request joins seen =
     then AskedPoisoned ∷ []
     else (if waits_behind needs seen request
     then (if joins then [] else Refused request ∷ [])
-    else (if needs.takes request == 0 then Got request ∷ [] else []))
+    else (if needs.takes request == 0 then Acquired request ∷ [] else []))
 
 -- the event of a place that gives this back, and of one that doesn't hold it
-abbrev pub gave : Given → Event
-gave (Asked request) = Gave request
+abbrev pub gave : ReleaseAmount → Event
+gave (Requested request) = Released request
 gave AllButAShare = Lowered
 
-abbrev pub gave_not : Given → Event
-gave_not (Asked request) = GaveNothing request
+abbrev pub gave_not : ReleaseAmount → Event
+gave_not (Requested request) = ReleasedNothing request
 gave_not AllButAShare = NotLowered
 
 -- what an answer names where a place is to give something back, by what is left of it and by the main word that it saw
-abbrev pub left_events : Given → Option ℕ → List Event
+abbrev pub left_events : ReleaseAmount → Option ℕ → List Event
 left_events what None = gave_not what ∷ []
 left_events what (Some left) = []
 
-abbrev pub given_events : Needs → Given → Word → List Event
+abbrev pub given_events : Needs → ReleaseAmount → Word → List Event
 given_events needs what seen = if seen.is_poisoned then gave_not what ∷ [] else left_events what (left_from needs seen.count what)
 
 -- the same of a place that takes its answer
-abbrev pub taken_events : Taking → Option ℕ → List Event
-taken_events taking (Some value) = Took value ∷ []
+abbrev pub taken_events : PollMode → Option ℕ → List Event
+taken_events taking (Some value) = AnswerTaken value ∷ []
 taken_events Tries None = NotReady ∷ []
 taken_events Awaits None = []
 taken_events (Gives request) None = []
@@ -70,17 +70,17 @@ poisoning_events seen = if seen.is_poisoned || not (seen.count == lock_count Exc
 -- what answers name of the events of a step, from its stage and the number that it finds
 abbrev pub named_at : Needs → Stage → ℕ → List Event
 named_at needs (ReadLoad reading) found = Read (word_of count_bits found).count (word_of count_bits found).is_poisoned ∷ []
-named_at needs (AskLoad ask) found = decided_events needs ask.request ask.joins (word_of count_bits found)
-named_at needs (AskExchange ask seen) found =
-    if found == word_number count_bits seen then Got ask.request ∷ [] else decided_events needs ask.request ask.joins (word_of count_bits found)
+named_at needs (AcquireLoad ask) found = decided_events needs ask.request ask.joins (word_of count_bits found)
+named_at needs (AcquireExchange ask seen) found =
+    if found == word_number count_bits seen then Acquired ask.request ∷ [] else decided_events needs ask.request ask.joins (word_of count_bits found)
 named_at needs (Join request seen) found =
     if found == word_number count_bits seen then Joined request ∷ [] else decided_events needs request true (word_of count_bits found)
 named_at needs (ReleaseLoad given) found = given_events needs given (word_of count_bits found)
 named_at needs (ReleaseExchange given seen) found =
     if found == word_number count_bits seen then gave given ∷ [] else given_events needs given (word_of count_bits found)
 named_at needs (Take taking) found = taken_events taking (answer_of (found % 65536))
-named_at needs (Unlink seen newer line older) found = Left ∷ []
-named_at needs (DropTail seen older) found = if found == word_number count_bits seen then Left ∷ [] else []
+named_at needs (Unlink seen newer line older) found = Cancelled ∷ []
+named_at needs (DropTail seen older) found = if found == word_number count_bits seen then Cancelled ∷ [] else []
 named_at needs PoisonLoad found = poisoning_events (word_of count_bits found)
 named_at needs (PoisonExchange seen) found =
     if found == word_number count_bits seen then Poisoned ∷ [] else poisoning_events (word_of count_bits found)
@@ -106,6 +106,6 @@ pub record StepRefines (needs : Needs) (places : ℕ) (row : ℕ → ℕ) (stand
   pub names : named events ≡ named_at needs stage (row (word_at (operation_of needs places me stage)))
   pub calm : needs.is_lock ≡ false → never_poisons events ≡ true
   pub inside : word_at (operation_of needs places me stage) < places + places + 1
-  pub stands : Refines needs places (row_after row (operation_of needs places me stage))
+  pub stands : Invariant needs places (row_after row (operation_of needs places me stage))
       (updated standing me (place_after (standing me) (next_of needs me (standing me) stage (row (word_at (operation_of needs places me stage))))))
       last

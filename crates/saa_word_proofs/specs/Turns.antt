@@ -3,7 +3,7 @@
 use Rattle.std.specs.Prelude.{◌≡◌, ◌≢◌, ℕ, Bool, true, false, ◌||◌, ◌==◌, List, [], ◌∷◌, Some, None}
 use Rattle.saa_core_spec.specs.Values.{granted_value}
 use Rattle.saa_word_steps.specs.declared.event.Event.{Event}
-use Rattle.saa_word_steps.specs.declared.event.Event.TheVariants.{Got, Joined, Gave, Lowered, Poisoned, Took}
+use Rattle.saa_word_steps.specs.declared.event.Event.TheVariants.{Acquired, Joined, Released, Lowered, Poisoned, AnswerTaken}
 use Rattle.saa_word_steps.specs.Needs.{Needs, fits_count, left_count}
 use Rattle.saa_word_steps.specs.AbstractState.{AbstractState}
 
@@ -15,13 +15,13 @@ pub record IsWhole (needs : Needs) (whole : ℕ) : Type 0 where
 
 -- whether an event begins a turn
 abbrev pub begins_turn : Event → Bool
-begins_turn (Got request) = true
-begins_turn (Took value) = value == granted_value
+begins_turn (Acquired request) = true
+begins_turn (AnswerTaken value) = value == granted_value
 begins_turn _ = false
 
 -- whether a turn is taken after an event, by what was before it
 abbrev pub is_taken_after : Bool → Event → Bool
-is_taken_after taken (Gave request) = false
+is_taken_after taken (Released request) = false
 is_taken_after taken event = begins_turn event || taken
 
 -- whether a turn is taken after a list of events
@@ -34,9 +34,9 @@ is_taken history = is_taken_from false history
 
 -- an event of those who take turns: each asks for the whole, what is given back is a turn that is taken, and none is lowered to a share or poisoned
 abbrev pub IsOfTurns : ℕ → Bool → Event → Type 0
-IsOfTurns whole taken (Got request) = request ≡ whole
+IsOfTurns whole taken (Acquired request) = request ≡ whole
 IsOfTurns whole taken (Joined request) = request ≡ whole
-IsOfTurns whole taken (Gave request) = (request ≡ whole) × (taken ≡ true)
+IsOfTurns whole taken (Released request) = (request ≡ whole) × (taken ≡ true)
 IsOfTurns whole taken Lowered = ⊥
 IsOfTurns whole taken Poisoned = ⊥
 IsOfTurns whole taken _ = Unit {0}

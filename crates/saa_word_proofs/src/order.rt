@@ -3,7 +3,7 @@
 ghost use Rattle.std.specs.Prelude.{◌≡◌, ℕ, true, false, List, [], ◌∷◌, ◌++◌};
 ghost use Rattle.saa_word_steps.specs.Needs.{Needs};
 ghost use Rattle.saa_word_steps.specs.declared.event.Event.{Event};
-ghost use Rattle.saa_word_steps.specs.declared.event.Event.TheVariants.{Got, Joined, Left};
+ghost use Rattle.saa_word_steps.specs.declared.event.Event.TheVariants.{Acquired, Joined, Cancelled};
 ghost use Rattle.saa_word_steps.specs.AbstractState.{AbstractState, IsRun, opening};
 ghost use Rattle.saa_word_proofs.specs.History.{part_of};
 ghost use Rattle.saa_word_proofs.specs.Order.{TakesInOrder, answered, answers, joined, joins, taken, waiting};
@@ -18,15 +18,15 @@ ghost use Rattle.saa_word_proofs.specs.Order.{TakesInOrder, answered, answers, j
 /// joined since another place did, so that it is the older waiter, that place has taken no answer in between.
 pub fn fifo()
     ensures no_barging { (needs : Needs) (withheld : ℕ) (before after : List (ℕ × Event)) (place request : ℕ) (last : AbstractState)
-        → IsRun needs (opening withheld) (before ++ (place, Got request) ∷ after) last → waiting before ≡ [] }
+        → IsRun needs (opening withheld) (before ++ (place, Acquired request) ∷ after) last → waiting before ≡ [] }
     ensures in_order { (needs : Needs) (withheld : ℕ) (history : List (ℕ × Event)) (last : AbstractState)
         → IsRun needs (opening withheld) history last → joined history ≡ answered (answers history) ++ waiting history }
     ensures taken_in_order { (needs : Needs) (withheld : ℕ) (history : List (ℕ × Event)) (last : AbstractState)
         → IsRun needs (opening withheld) history last → (place : ℕ) → TakesInOrder history place }
     ensures not_barged { (needs : Needs) (withheld : ℕ) (before between after : List (ℕ × Event)) (waiter other request : ℕ) (last : AbstractState)
-        → IsRun needs (opening withheld) (before ++ (other, Got request) ∷ between ++ (waiter, Left) ∷ after) last
+        → IsRun needs (opening withheld) (before ++ (other, Acquired request) ∷ between ++ (waiter, Cancelled) ∷ after) last
         → joins (part_of waiter between) ≡ true }
     ensures not_overtaken { (needs : Needs) (withheld : ℕ) (before between after : List (ℕ × Event)) (first second request : ℕ) (last : AbstractState)
-        → IsRun needs (opening withheld) (before ++ (second, Joined request) ∷ between ++ (first, Left) ∷ after) last
+        → IsRun needs (opening withheld) (before ++ (second, Joined request) ∷ between ++ (first, Cancelled) ∷ after) last
         → joins (part_of first between) ≡ false → taken (part_of second between) ≡ [] }
 {}

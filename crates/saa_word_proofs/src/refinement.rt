@@ -12,12 +12,12 @@ ghost use Rattle.saa_word_steps.specs.Steps.{next_of, operation_of, started, wor
 ghost use Rattle.saa_word_steps.specs.Readings.{is_taken};
 ghost use Rattle.saa_word_steps.specs.declared.place.Stage.TheVariants.{Quiet};
 ghost use Rattle.saa_word_steps.specs.declared.place.Next.TheVariants.{Waits};
-ghost use Rattle.saa_word_proofs.specs.Refinement.{joins_line, Refines};
+ghost use Rattle.saa_word_proofs.specs.Refinement.{joins_line, Invariant};
 ghost use Rattle.saa_word_proofs.specs.Rows.{updated};
 ghost use Rattle.saa_word_proofs.specs.StepRefinement.{StepRefines, named_at, place_after};
 ghost use Rattle.saa_word_proofs.specs.CallStages.{IsBegun, IsUnder, IsUnderNext};
 ghost use Rattle.saa_word_proofs.specs.History.{BeginsWith, part_of, seen_by};
-ghost use Rattle.saa_word_proofs.specs.Promises.{Observes, idle_place, opening_row};
+ghost use Rattle.saa_word_proofs.specs.Promises.{WordsShow, idle_place, opening_row};
 
 /// Each step of each place refines a list of events of the abstract state, each enabled where it comes; what an answer names of them is
 /// said by the stage and the number that the place found; and the row with the word that it wrote and the place as it goes on refine the
@@ -26,7 +26,7 @@ ghost use Rattle.saa_word_proofs.specs.Promises.{Observes, idle_place, opening_r
 pub fn steps()
     ensures { (needs : Needs) → AreNeeds needs → needs.top < 2 ^ count_bits
         → (places : ℕ) (row : ℕ → ℕ) (standing : ℕ → Place) (state : AbstractState) (me : ℕ) → places < 65536
-        → Refines needs places row standing state → (made : StepRefines needs places row standing state me (standing me).stage)
+        → Invariant needs places row standing state → (made : StepRefines needs places row standing state me (standing me).stage)
         × (next_of needs me (standing me) (standing me).stage (row (word_at (operation_of needs places me (standing me).stage))) ≡ Waits → made.events ≡ []) }
 {}
 
@@ -42,7 +42,7 @@ pub fn calls()
 /// A row in which so much is held and idle places refine the opened abstract state.
 pub fn opens()
     ensures { (needs : Needs) → needs.top < 2 ^ count_bits → (places count : ℕ) → count ≤ needs.top
-        → Refines needs places (opening_row count) (λ place. idle_place) (opening count) }
+        → Invariant needs places (opening_row count) (λ place. idle_place) (opening count) }
 {}
 
 /// A call that starts at a place in none uses no word and is no event: words and places refine it still. It has named nothing. A visitor may start any
@@ -50,8 +50,8 @@ pub fn opens()
 pub fn starts()
     ensures stands { (needs : Needs) → needs.top < 2 ^ count_bits → (places : ℕ) (row : ℕ → ℕ) (standing : ℕ → Place) (state : AbstractState) (me : ℕ) (call : WordCall)
         → (places ≤ me → joins_line (place_after (standing me) (started needs (standing me) call)).stage ≡ false)
-        → Refines needs places row standing state → (standing me).stage ≡ Quiet → is_taken needs.is_lock call ≡ true
-        → Refines needs places row (updated standing me (place_after (standing me) (started needs (standing me) call))) state }
+        → Invariant needs places row standing state → (standing me).stage ≡ Quiet → is_taken needs.is_lock call ≡ true
+        → Invariant needs places row (updated standing me (place_after (standing me) (started needs (standing me) call))) state }
     ensures begun { (needs : Needs) (place : Place) (call : WordCall) → place.stage ≡ Quiet
         → IsBegun needs call place.registration (started needs place call) }
 {}
@@ -59,7 +59,7 @@ pub fn starts()
 /// The words say what the object is, at every moment.
 pub fn words()
     ensures { (needs : Needs) (places : ℕ) (row : ℕ → ℕ) (standing : ℕ → Place) (state : AbstractState)
-        → Refines needs places row standing state → Observes needs places row state }
+        → Invariant needs places row standing state → WordsShow needs places row state }
 {}
 
 /// What a place has seen of a history is a beginning of it, and has all events of the place.

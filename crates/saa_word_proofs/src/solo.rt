@@ -25,10 +25,10 @@ ghost use Rattle.saa_word_proofs.specs.History.{named, of_place};
 ghost use Rattle.saa_word_proofs.specs.Calls.{asked_by};
 ghost use Rattle.saa_word_proofs.specs.CallStages.{IsLeft, IsReadyNext, IsStartedAs, IsUnder};
 ghost use Rattle.saa_word_proofs.specs.Registering.{AreRegistered, registration_after_start, is_slot, registration_after, starting_answer};
-ghost use Rattle.saa_word_proofs.specs.Refinement.{Refines};
+ghost use Rattle.saa_word_proofs.specs.Refinement.{Invariant};
 ghost use Rattle.saa_word_proofs.specs.Rows.{updated};
-ghost use Rattle.saa_word_proofs.specs.Alone.{IsCalledAlone, IsKeptWaiting, IsLeftWaiting, IsQuiet, Mirrors, Moment};
-ghost use Rattle.saa_word_proofs.specs.Promises.{IsAtRest};
+ghost use Rattle.saa_word_proofs.specs.Alone.{IsCalledAlone, IsKeptWaiting, IsLeftWaiting, PlacesAreQuiescent, PlacesRepresent, Configuration};
+ghost use Rattle.saa_word_proofs.specs.Promises.{WordsAreQuiescent};
 ghost use Rattle.saa_word_proofs.specs.Ends.{Ends};
 ghost use Rattle.saa_word_proofs.specs.Represents.{called};
 ghost use Rattle.saa_word_proofs.specs.Agrees.{Begins, Agrees};
@@ -37,9 +37,9 @@ ghost use Rattle.saa_word_proofs.specs.Agrees.{Begins, Agrees};
 /// link all waiters. So it is while no place is registered in the line, whatever calls are underway: there is nobody to grant anything then.
 pub fn quiet()
     ensures between_calls { (needs : Needs) (places : ℕ) (row : ℕ → ℕ) (standing : ℕ → Place) (state : AbstractState)
-        → Refines needs places row standing state → IsQuiet standing → IsAtRest needs row state }
+        → Invariant needs places row standing state → PlacesAreQuiescent standing → WordsAreQuiescent needs row state }
     ensures unregistered { (needs : Needs) (places : ℕ) (row : ℕ → ℕ) (standing : ℕ → Place) (state : AbstractState)
-        → Refines needs places row standing state → ((place : ℕ) → is_slot (standing place).registration ≡ false) → IsAtRest needs row state }
+        → Invariant needs places row standing state → ((place : ℕ) → is_slot (standing place).registration ≡ false) → WordsAreQuiescent needs row state }
 {}
 
 /// A call that moves alone, from a moment when no place is in a call, is the call of the sequential semaphore or lock.
@@ -53,22 +53,22 @@ pub fn quiet()
 ///
 /// Every moment has such an object, and at the opening it is a newly made one.
 pub fn alone()
-    ensures calls { (rules : Rules) (places me : ℕ) (is_sync : Bool) (call : WordCall) (now : Moment) (s : Object) (steps : ℕ) (answer : Answer) (last : Moment)
+    ensures calls { (rules : Rules) (places me : ℕ) (is_sync : Bool) (call : WordCall) (now : Configuration) (s : Object) (steps : ℕ) (answer : Answer) (last : Configuration)
         → Begins rules places me now s → is_taken (needs_of rules).is_lock call ≡ true → IsCalledAlone (needs_of rules) places me call steps now answer last
         → Agrees (needs_of rules) places me is_sync call s answer last }
-    ensures waits { (needs : Needs) (places me : ℕ) (now : Moment) (state : AbstractState)
-        → Refines needs places now.row now.standing state → me < places → is_in me state.line ≡ true → IsLeftWaiting needs places me Poll now }
-    ensures only { (rules : Rules) (places me : ℕ) (call : WordCall) (steps : ℕ) (now : Moment) (state : AbstractState)
+    ensures waits { (needs : Needs) (places me : ℕ) (now : Configuration) (state : AbstractState)
+        → Invariant needs places now.row now.standing state → me < places → is_in me state.line ≡ true → IsLeftWaiting needs places me Poll now }
+    ensures only { (rules : Rules) (places me : ℕ) (call : WordCall) (steps : ℕ) (now : Configuration) (state : AbstractState)
         → (needs_of rules).top < 2 ^ count_bits → places < 65536
-        → Refines (needs_of rules) places now.row now.standing state → IsQuiet now.standing → me < places → is_taken (needs_of rules).is_lock call ≡ true
+        → Invariant (needs_of rules) places now.row now.standing state → PlacesAreQuiescent now.standing → me < places → is_taken (needs_of rules).is_lock call ≡ true
         → IsKeptWaiting (needs_of rules) places me call steps now → (call ≡ Poll) × (is_in me state.line ≡ true) }
-    ensures unready { (needs : Needs) (places me : ℕ) (is_sync : Bool) (now : Moment) (state : AbstractState) (s : Object)
-        → Refines needs places now.row now.standing state → Mirrors needs places now.standing state s → me < places → is_in me state.line ≡ true
+    ensures unready { (needs : Needs) (places me : ℕ) (is_sync : Bool) (now : Configuration) (state : AbstractState) (s : Object)
+        → Invariant needs places now.row now.standing state → PlacesRepresent needs places now.standing state s → me < places → is_in me state.line ≡ true
         → ((called needs.is_lock me is_sync Poll s).reply ≡ Taken (Err NotReady)) × ((called needs.is_lock me is_sync Poll s).state ≡ s) }
     ensures exists { (needs : Needs) (places : ℕ) (standing : ℕ → Place) (state : AbstractState)
-        → (s : Object) × Mirrors needs places standing state s }
+        → (s : Object) × PlacesRepresent needs places standing state s }
     ensures opening { (needs : Needs) (withheld places : ℕ) (standing : ℕ → Place) → ((place : ℕ) → (standing place).registration ≡ Idle)
-        → Mirrors needs places standing (opening withheld) (newly_made (needs.held withheld) places places) }
+        → PlacesRepresent needs places standing (opening withheld) (newly_made (needs.held withheld) places places) }
 {}
 
 /// A call that starts while no place is in one, and that moves alone, is done within 8 steps for each waiter and 24 more; but for a
@@ -76,7 +76,7 @@ pub fn alone()
 pub fn ends()
     ensures { (needs : Needs) → AreNeeds needs → needs.top < 2 ^ count_bits
         → (places : ℕ) (row : ℕ → ℕ) (standing : ℕ → Place) (state : AbstractState) (me : ℕ) (call : WordCall) → places < 65536 → me < places
-        → Refines needs places row standing state → IsQuiet standing → is_taken needs.is_lock call ≡ true → (call ≡ Poll → is_in me state.line ≡ false)
+        → Invariant needs places row standing state → PlacesAreQuiescent standing → is_taken needs.is_lock call ≡ true → (call ≡ Poll → is_in me state.line ≡ false)
         → Ends needs places me call (record { row = row; standing = standing }) (8 * length state.line + 24) }
 {}
 
@@ -101,5 +101,5 @@ pub fn ready()
     ensures first { (needs : Needs) (places me : ℕ) (place : Place) (call : WordCall) → me < places → IsReadyNext needs places me (started needs place call) }
     ensures next { (needs : Needs) → AreNeeds needs → needs.top < 2 ^ count_bits
         → (places : ℕ) (row : ℕ → ℕ) (standing : ℕ → Place) (state : AbstractState) (me : ℕ) → places < 65536 → me < places
-        → Refines needs places row standing state → IsReadyNext needs places me (Going (standing me)) }
+        → Invariant needs places row standing state → IsReadyNext needs places me (Going (standing me)) }
 {}

@@ -3,12 +3,12 @@
 ghost use Rattle.std.specs.Prelude.{◌^◌, ◌≢◌, ℕ, ◌+◌, ◌*◌, ◌<◌, ◌≤◌};
 ghost use Rattle.saa_core_words.specs.Words.{count_bits};
 ghost use Rattle.saa_word_steps.specs.declared.place.Place.{Place};
-ghost use Rattle.saa_word_steps.specs.declared.place.Back.{Back};
+ghost use Rattle.saa_word_steps.specs.declared.place.AfterWalk.{AfterWalk};
 ghost use Rattle.saa_word_steps.specs.declared.place.Stage.{Stage};
 ghost use Rattle.saa_word_steps.specs.declared.place.Stage.TheVariants.{Quiet};
 ghost use Rattle.saa_word_steps.specs.Needs.{Needs, AreNeeds};
 ghost use Rattle.saa_word_steps.specs.AbstractState.{AbstractState};
-ghost use Rattle.saa_word_proofs.specs.Refinement.{Refines};
+ghost use Rattle.saa_word_proofs.specs.Refinement.{Invariant};
 ghost use Rattle.saa_word_proofs.specs.StepBound.{step_bound, IsLowered, IsKept, AreWithin, IsCounted};
 
 /// How many steps a call has left at most, as long as no other place changes the main word.
@@ -17,12 +17,12 @@ ghost use Rattle.saa_word_proofs.specs.StepBound.{step_bound, IsLowered, IsKept,
 /// stand together, each step of a call lowers its step bound: one step at least is left before it, also where the call is done with it or
 /// finds that it has to wait. A step of a place that leaves the main word's number raises the step bound of no other place.
 pub fn step_bounds()
-    ensures bounded { (places : ℕ) (row : ℕ → ℕ) (back : Back) (stage : Stage) → step_bound places row back stage ≤ 16 * places + 13 }
+    ensures bounded { (places : ℕ) (row : ℕ → ℕ) (back : AfterWalk) (stage : Stage) → step_bound places row back stage ≤ 16 * places + 13 }
     ensures lowered { (needs : Needs) → AreNeeds needs → needs.top < 2 ^ count_bits
-        → (places : ℕ) (row : ℕ → ℕ) (standing : ℕ → Place) (state : AbstractState) (me : ℕ) → Refines needs places row standing state
+        → (places : ℕ) (row : ℕ → ℕ) (standing : ℕ → Place) (state : AbstractState) (me : ℕ) → Invariant needs places row standing state
         → (standing me).stage ≢ Quiet → IsLowered needs places row standing me (standing me).stage }
     ensures kept { (needs : Needs) (places : ℕ) (row : ℕ → ℕ) (standing : ℕ → Place) (state : AbstractState) (me other : ℕ)
-        → Refines needs places row standing state → other ≢ me → IsKept needs places row standing me other }
+        → Invariant needs places row standing state → other ≢ me → IsKept needs places row standing me other }
 {}
 
 /// Between two changes of the main word by other places, a place makes at most 16 steps for each place and 48 more.
@@ -32,6 +32,6 @@ pub fn step_bounds()
 /// made none is within it, whatever stands in the words, since its step bound is.
 pub fn counts()
     ensures { (needs : Needs) → AreNeeds needs → needs.top < 2 ^ count_bits
-        → (places : ℕ) (row : ℕ → ℕ) (standing : ℕ → Place) (state : AbstractState) (me : ℕ) (made : ℕ → ℕ) → Refines needs places row standing state
+        → (places : ℕ) (row : ℕ → ℕ) (standing : ℕ → Place) (state : AbstractState) (me : ℕ) (made : ℕ → ℕ) → Invariant needs places row standing state
         → (standing me).stage ≢ Quiet → AreWithin places row standing made → IsCounted needs places row standing me made (standing me).stage }
 {}

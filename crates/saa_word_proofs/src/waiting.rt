@@ -6,7 +6,7 @@ ghost use Rattle.saa_word_steps.specs.declared.place.Next.TheVariants.{Waits};
 ghost use Rattle.saa_word_steps.specs.Needs.{Needs};
 ghost use Rattle.saa_word_steps.specs.AbstractState.{AbstractState};
 ghost use Rattle.saa_word_steps.specs.Steps.{word_at, operation_of, next_of};
-ghost use Rattle.saa_word_proofs.specs.Refinement.{Refines};
+ghost use Rattle.saa_word_proofs.specs.Refinement.{Invariant};
 ghost use Rattle.saa_word_proofs.specs.Rows.{main_of};
 ghost use Rattle.saa_word_proofs.specs.StepRefinement.{row_after};
 ghost use Rattle.saa_word_proofs.specs.Blocking.{IsBlockedAt};
@@ -16,7 +16,7 @@ ghost use Rattle.saa_word_proofs.specs.Blocking.{IsBlockedAt};
 /// is.
 pub fn waits()
     ensures { (needs : Needs) (places : ℕ) (row : ℕ → ℕ) (standing : ℕ → Place) (state : AbstractState) (me : ℕ)
-        → Refines needs places row standing state
+        → Invariant needs places row standing state
         → next_of needs me (standing me) (standing me).stage (row (word_at (operation_of needs places me (standing me).stage))) ≡ Waits
         → IsBlockedAt state me (main_of row) (standing me).stage
         × (row_after row (operation_of needs places me (standing me).stage) ≡ row) }

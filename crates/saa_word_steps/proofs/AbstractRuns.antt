@@ -7,7 +7,7 @@ use Rattle.saa_core_spec.specs.Object.{one_if, times, without}
 use Rattle.saa_core_spec.proofs.Counts.{one_if-le, number_same, same_number}
 use Rattle.saa_word_steps.specs.Needs.{Needs, AreNeeds, fits_count, left_count, permit_needs}
 use Rattle.saa_word_steps.specs.declared.event.Event.{Event}
-use Rattle.saa_word_steps.specs.declared.event.Event.TheVariants.{Got, Refused, Joined, Gave, GaveNothing, Lowered, NotLowered, AskedPoisoned, Left, Closed, Poisoned, NotPoisoned, Cleared, NotCleared, NotReady, Granted, Showed, Took, Read}
+use Rattle.saa_word_steps.specs.declared.event.Event.TheVariants.{Acquired, Refused, Joined, Released, ReleasedNothing, Lowered, NotLowered, AskedPoisoned, Cancelled, Closed, Poisoned, NotPoisoned, Cleared, NotCleared, NotReady, Granted, Showed, AnswerTaken, Read}
 use Rattle.saa_word_steps.specs.AbstractState.{AbstractState, IsEnabled, after_event, IsRun, IsFront, IsSettledAt, is_empty, is_in, takes_of, answered_with, with_answer, count_or, held_by}
 
 -- what each event keeps every run keeps
@@ -42,16 +42,16 @@ joined-settled needs count place request (asker ∷ rest) waits settled = settle
 settled-step : (needs : Needs) (state : AbstractState) (place : ℕ) (event : Event) → IsEnabled needs state place event
     → (state.unclosed ≡ false → IsSettledAt needs state.count state.line)
     → (after_event needs state place event).unclosed ≡ false → IsSettledAt needs (after_event needs state place event).count (after_event needs state place event).line
-settled-step needs state place (Got request) allowed was closed = subst (λ line. IsSettledAt needs (state.count + needs.takes request) line) (sym allowed.1) tt
+settled-step needs state place (Acquired request) allowed was closed = subst (λ line. IsSettledAt needs (state.count + needs.takes request) line) (sym allowed.1) tt
 settled-step needs state place (Refused request) allowed was closed = was closed
 settled-step needs state place (Joined request) allowed was closed = joined-settled needs state.count place request state.line allowed.1 (was closed)
-settled-step needs state place (Gave request) allowed was closed =
+settled-step needs state place (Released request) allowed was closed =
     subst (λ line. IsSettledAt needs (count_or state.count (left_count needs state.count request)) line) (sym (empty-or state.line state.unclosed closed)) tt
-settled-step needs state place (GaveNothing request) allowed was closed = was closed
+settled-step needs state place (ReleasedNothing request) allowed was closed = was closed
 settled-step needs state place Lowered allowed was closed = subst (λ line. IsSettledAt needs 1 line) (sym (empty-or state.line state.unclosed closed)) tt
 settled-step needs state place NotLowered allowed was closed = was closed
 settled-step needs state place AskedPoisoned allowed was closed = was closed
-settled-step needs state place Left allowed was closed = subst (λ line. IsSettledAt needs state.count line) (sym (empty-not (without place state.line) closed)) tt
+settled-step needs state place Cancelled allowed was closed = subst (λ line. IsSettledAt needs state.count line) (sym (empty-not (without place state.line) closed)) tt
 settled-step needs state place (Granted askers) allowed was closed =
     let differ : true ≡ false = sym allowed.0 ∙ closed in absurd (cc)
 settled-step needs state place Closed allowed was closed = allowed.1
@@ -61,7 +61,7 @@ settled-step needs state place Cleared allowed was closed = was closed
 settled-step needs state place NotCleared allowed was closed = was closed
 settled-step needs state place NotReady allowed was closed = was closed
 settled-step needs state place (Showed shown_place) allowed was closed = was closed
-settled-step needs state place (Took value) allowed was closed = was closed
+settled-step needs state place (AnswerTaken value) allowed was closed = was closed
 settled-step needs state place (Read count poisoned) allowed was closed = was closed
 
 pub run-settled : (needs : Needs) (state : AbstractState) (events : List (ℕ × Event)) (last : AbstractState) → IsRun needs state events last
@@ -79,17 +79,17 @@ front-bounded needs lawful count (asker ∷ rest) fits small =
 
 bounded-step : (needs : Needs) → AreNeeds needs → (state : AbstractState) (place : ℕ) (event : Event) → IsEnabled needs state place event
     → state.count ≤ needs.top → (after_event needs state place event).count ≤ needs.top
-bounded-step needs lawful state place (Got request) allowed was = lawful.bounded state.count request allowed.2
+bounded-step needs lawful state place (Acquired request) allowed was = lawful.bounded state.count request allowed.2
 bounded-step needs lawful state place (Refused request) allowed was = was
 bounded-step needs lawful state place (Joined request) allowed was = was
-bounded-step needs lawful state place (Gave request) allowed was =
+bounded-step needs lawful state place (Released request) allowed was =
     let less = lawful.shrinks state.count request allowed.1.0 allowed.1.1 in
     rw allowed.1.1 (omega (arith, less, was))
-bounded-step needs lawful state place (GaveNothing request) allowed was = was
+bounded-step needs lawful state place (ReleasedNothing request) allowed was = was
 bounded-step needs lawful state place Lowered allowed was = omega (arith, allowed.1, was)
 bounded-step needs lawful state place NotLowered allowed was = was
 bounded-step needs lawful state place AskedPoisoned allowed was = was
-bounded-step needs lawful state place Left allowed was = was
+bounded-step needs lawful state place Cancelled allowed was = was
 bounded-step needs lawful state place (Granted askers) allowed was = front-bounded needs lawful state.count (take askers state.line) allowed.3 was
 bounded-step needs lawful state place Closed allowed was = was
 bounded-step needs lawful state place Poisoned allowed was = omega arith
@@ -98,7 +98,7 @@ bounded-step needs lawful state place Cleared allowed was = was
 bounded-step needs lawful state place NotCleared allowed was = was
 bounded-step needs lawful state place NotReady allowed was = was
 bounded-step needs lawful state place (Showed shown_place) allowed was = was
-bounded-step needs lawful state place (Took value) allowed was = was
+bounded-step needs lawful state place (AnswerTaken value) allowed was = was
 bounded-step needs lawful state place (Read count poisoned) allowed was = was
 
 pub run-bounded : (needs : Needs) → AreNeeds needs → (state : AbstractState) (events : List (ℕ × Event)) (last : AbstractState) → IsRun needs state events last
@@ -162,7 +162,7 @@ with_answer-other place answer answers other apart = rw apart refl
 
 once-step : (needs : Needs) (state : AbstractState) (place : ℕ) (event : Event) → IsEnabled needs state place event
     → ((other : ℕ) → held_by other state ≤ 1) → (other : ℕ) → held_by other (after_event needs state place event) ≤ 1
-once-step needs state place (Got request) allowed was other = was other
+once-step needs state place (Acquired request) allowed was other = was other
 once-step needs state place (Refused request) allowed was other = was other
 once-step needs state place (Joined request) allowed was other =
     elim (cases_Bool (place == other)) [
@@ -174,12 +174,12 @@ once-step needs state place (Joined request) allowed was other =
           omega (arith, waits, due, shown, waits-push other state.line (place, request), one_if-le (place == other))
       | inr apart ↦ omega (arith, was other, waits-push other state.line (place, request), ap one_if apart)
     ]
-once-step needs state place (Gave request) allowed was other = was other
-once-step needs state place (GaveNothing request) allowed was other = was other
+once-step needs state place (Released request) allowed was other = was other
+once-step needs state place (ReleasedNothing request) allowed was other = was other
 once-step needs state place Lowered allowed was other = was other
 once-step needs state place NotLowered allowed was other = was other
 once-step needs state place AskedPoisoned allowed was other = was other
-once-step needs state place Left allowed was other = omega (arith, was other, waits-without place other state.line)
+once-step needs state place Cancelled allowed was other = omega (arith, was other, waits-without place other state.line)
 once-step needs state place (Granted askers) allowed was other =
     let parts = waits-parts other askers state.line in
     omega (arith, answered-once other 0 (take askers state.line) state.due (times other (drop askers state.line) + one_if (is_some (state.shown other))) (omega (arith, was other, parts)))
@@ -198,7 +198,7 @@ once-step needs state place (Showed shown_place) allowed was other =
           rw same (omega (arith, was other, due, one_if-le (is_some (state.due shown_place))))
       | inr apart ↦ rw apart (was other)
     ]
-once-step needs state place (Took value) allowed was other =
+once-step needs state place (AnswerTaken value) allowed was other =
     elim (cases_Bool (other == place)) [
       | inl same ↦ rw same (omega (arith, was other))
       | inr apart ↦ rw apart (was other)

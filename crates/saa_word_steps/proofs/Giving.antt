@@ -4,8 +4,8 @@ use Rattle.std.proofs.lemmas.Bool.{cases_Bool}
 use Rattle.saa_core_spec.specs.Held.{Exclusive}
 use Rattle.saa_core_spec.proofs.Counts.{same_number}
 use Rattle.saa_core_words.specs.Words.{lock_count}
-use Rattle.saa_word_steps.specs.declared.place.Given.{Given}
-use Rattle.saa_word_steps.specs.declared.place.Given.TheVariants.{Asked, AllButAShare}
+use Rattle.saa_word_steps.specs.declared.place.ReleaseAmount.{ReleaseAmount}
+use Rattle.saa_word_steps.specs.declared.place.ReleaseAmount.TheVariants.{Requested, AllButAShare}
 use Rattle.saa_word_steps.specs.Needs.{Needs, AreNeeds}
 use Rattle.saa_word_steps.specs.Steps.{left_from}
 
@@ -30,7 +30,7 @@ left-share needs count left is =
     ]
 
 -- what is left is no more than what was held
-pub left-shrinks : (needs : Needs) → AreNeeds needs → (count : ℕ) (what : Given) (left : ℕ) → left_from needs count what ≡ Some left → left ≤ count
-left-shrinks needs lawful count (Asked request) left is = lawful.shrinks count request left is
+pub left-shrinks : (needs : Needs) → AreNeeds needs → (count : ℕ) (what : ReleaseAmount) (left : ℕ) → left_from needs count what ≡ Some left → left ≤ count
+left-shrinks needs lawful count (Requested request) left is = lawful.shrinks count request left is
 left-shrinks needs lawful count AllButAShare left is =
     let share = left-share needs count left is in omega (arith, share.0, share.1.0)

@@ -6,15 +6,15 @@ use Rattle.saa_core_words.specs.declared.line_word.LineWord.{LineWord}
 use Rattle.saa_core_words.specs.Words.{count_bits, word_number, word_of, line_word_of, answer_of}
 use Rattle.saa_word_steps.specs.declared.place.Place.{Place}
 use Rattle.saa_word_steps.specs.declared.place.Ask.{Ask}
-use Rattle.saa_word_steps.specs.declared.place.Afterwards.{Afterwards}
-use Rattle.saa_word_steps.specs.declared.place.Afterwards.TheVariants.{Ends, Again}
-use Rattle.saa_word_steps.specs.declared.place.Given.{Given}
-use Rattle.saa_word_steps.specs.declared.place.Back.{Back}
-use Rattle.saa_word_steps.specs.declared.place.Back.TheVariants.{Tells, Ends as EndsCall, Takes}
-use Rattle.saa_word_steps.specs.declared.place.Taking.{Taking}
-use Rattle.saa_word_steps.specs.declared.place.Taking.TheVariants.{Tries, Awaits, Gives}
+use Rattle.saa_word_steps.specs.declared.place.AfterShow.{AfterShow}
+use Rattle.saa_word_steps.specs.declared.place.AfterShow.TheVariants.{Ends, Again}
+use Rattle.saa_word_steps.specs.declared.place.ReleaseAmount.{ReleaseAmount}
+use Rattle.saa_word_steps.specs.declared.place.AfterWalk.{AfterWalk}
+use Rattle.saa_word_steps.specs.declared.place.AfterWalk.TheVariants.{Tells, Ends as EndsCall, Takes}
+use Rattle.saa_word_steps.specs.declared.place.PollMode.{PollMode}
+use Rattle.saa_word_steps.specs.declared.place.PollMode.TheVariants.{Tries, Awaits, Gives}
 use Rattle.saa_word_steps.specs.declared.place.Stage.{Stage}
-use Rattle.saa_word_steps.specs.declared.place.Stage.TheVariants.{Quiet, ReadLoad, AskLoad, AskExchange, Prepare, Join, ReleaseLoad, ReleaseExchange, BackLoad, BackStore, Forward, CutToClose, CutToGoRound, Close, Empty, GoRound, ShowLoad, ShowStore, Take, FlagLoad, FlagExchange, LookLoad, LookStore, Unlink, DropTail, PoisonLoad, PoisonExchange, Clear}
+use Rattle.saa_word_steps.specs.declared.place.Stage.TheVariants.{Quiet, ReadLoad, AcquireLoad, AcquireExchange, Prepare, Join, ReleaseLoad, ReleaseExchange, BackLoad, BackStore, Forward, CutToClose, CutForRetry, Close, Empty, Retry, ShowLoad, ShowStore, Take, FlagLoad, FlagExchange, LookLoad, LookStore, Unlink, DropTail, PoisonLoad, PoisonExchange, Clear}
 use Rattle.saa_word_steps.specs.declared.operation.Operation.TheVariants.{Add}
 use Rattle.saa_word_steps.specs.Needs.{Needs, AreNeeds, fits_count}
 use Rattle.saa_word_steps.specs.AbstractState.{count_or}
@@ -39,12 +39,12 @@ granted-ranged needs place ask =
       | inr tries ↦ rw tries tt
     ]
 
-finished-ranged : (needs : Needs) (place : Place) (back : Back) → IsRangedNext needs (finished place back)
+finished-ranged : (needs : Needs) (place : Place) (back : AfterWalk) → IsRangedNext needs (finished place back)
 finished-ranged needs place Tells = tt
 finished-ranged needs place EndsCall = tt
 finished-ranged needs place (Takes request) = tt
 
-nothing-ranged : (needs : Needs) (place : Place) (back : Back) → IsRangedNext needs (gave_nothing place back)
+nothing-ranged : (needs : Needs) (place : Place) (back : AfterWalk) → IsRangedNext needs (gave_nothing place back)
 nothing-ranged needs place Tells = tt
 nothing-ranged needs place EndsCall = tt
 nothing-ranged needs place (Takes request) = tt
@@ -75,31 +75,31 @@ decided-ranged needs place ask seen small =
           ]
     ]
 
-left-small-by : (needs : Needs) → AreNeeds needs → (count : ℕ) (what : Given) (left : Option ℕ) → left_from needs count what ≡ left → count_or count left ≤ count
+left-small-by : (needs : Needs) → AreNeeds needs → (count : ℕ) (what : ReleaseAmount) (left : Option ℕ) → left_from needs count what ≡ left → count_or count left ≤ count
 left-small-by needs lawful count what None is = omega arith
 left-small-by needs lawful count what (Some left) is = left-shrinks needs lawful count what left is
 
 -- what is left is no more than what was held
-left-small : (needs : Needs) → AreNeeds needs → (count : ℕ) (what : Given) → count_or count (left_from needs count what) ≤ count
+left-small : (needs : Needs) → AreNeeds needs → (count : ℕ) (what : ReleaseAmount) → count_or count (left_from needs count what) ≤ count
 left-small needs lawful count what = left-small-by needs lawful count what (left_from needs count what) refl
 
-given-to-ranged : (needs : Needs) (place : Place) (what : Given) (seen : Word) (left : Option ℕ) → IsSmall seen → IsRangedNext needs (given_to place what seen left)
+given-to-ranged : (needs : Needs) (place : Place) (what : ReleaseAmount) (seen : Word) (left : Option ℕ) → IsSmall seen → IsRangedNext needs (given_to place what seen left)
 given-to-ranged needs place what seen None small = nothing-ranged needs place place.back
 given-to-ranged needs place what seen (Some left) small = small
 
-given-by : (needs : Needs) (place : Place) (what : Given) (seen : Word) → IsSmall seen → (poisoned : Bool)
+given-by : (needs : Needs) (place : Place) (what : ReleaseAmount) (seen : Word) → IsSmall seen → (poisoned : Bool)
     → IsRangedNext needs (if poisoned then gave_nothing place place.back else given_to place what seen (left_from needs seen.count what))
 given-by needs place what seen small true = nothing-ranged needs place place.back
 given-by needs place what seen small false = given-to-ranged needs place what seen (left_from needs seen.count what) small
 
-given-ranged : (needs : Needs) (place : Place) (what : Given) (seen : Word) → IsSmall seen → IsRangedNext needs (given needs place what seen)
+given-ranged : (needs : Needs) (place : Place) (what : ReleaseAmount) (seen : Word) → IsSmall seen → IsRangedNext needs (given needs place what seen)
 given-ranged needs place what seen small = given-by needs place what seen small seen.is_poisoned
 
-shown-ranged : (needs : Needs) (place : Place) (afterwards : Afterwards) (current next value : ℕ) → IsRanged needs (ShowStore current next value afterwards) → IsRangedNext needs (shown_all place afterwards)
+shown-ranged : (needs : Needs) (place : Place) (afterwards : AfterShow) (current next value : ℕ) → IsRanged needs (ShowStore current next value afterwards) → IsRangedNext needs (shown_all place afterwards)
 shown-ranged needs place Ends current next value ranged = finished-ranged needs place place.back
 shown-ranged needs place (Again seen) current next value ranged = ranged
 
-shown-next : (needs : Needs) (place : Place) (afterwards : Afterwards) (current next value : ℕ) → IsRanged needs (ShowStore current next value afterwards) → IsRanged needs (ShowLoad next value afterwards)
+shown-next : (needs : Needs) (place : Place) (afterwards : AfterShow) (current next value : ℕ) → IsRanged needs (ShowStore current next value afterwards) → IsRanged needs (ShowLoad next value afterwards)
 shown-next needs place Ends current next value ranged = tt
 shown-next needs place (Again seen) current next value ranged = ranged
 
@@ -110,7 +110,7 @@ dropped-ranged needs place request value =
       | inr ends ↦ rw ends tt
     ]
 
-taken-ranged : (needs : Needs) (place : Place) (taking : Taking) (answer : Option ℕ) → IsRangedNext needs (taken_answer needs place taking answer)
+taken-ranged : (needs : Needs) (place : Place) (taking : PollMode) (answer : Option ℕ) → IsRangedNext needs (taken_answer needs place taking answer)
 taken-ranged needs place (Gives request) (Some value) = dropped-ranged needs place request value
 taken-ranged needs place (Gives request) None = tt
 taken-ranged needs place Awaits (Some value) = tt
@@ -189,8 +189,8 @@ pub next-ranged : (needs : Needs) → AreNeeds needs → needs.top < 2 ^ count_b
     → IsRanged needs place.stage → IsRanged needs stage → IsRangedNext needs (next_of needs me place stage found)
 next-ranged needs lawful wide me place Quiet found was ranged = was
 next-ranged needs lawful wide me place (ReadLoad reading) found was ranged = tt
-next-ranged needs lawful wide me place (AskLoad ask) found was ranged = decided-ranged needs place ask (word_of count_bits found) (word-small found)
-next-ranged needs lawful wide me place (AskExchange ask seen) found was ranged =
+next-ranged needs lawful wide me place (AcquireLoad ask) found was ranged = decided-ranged needs place ask (word_of count_bits found) (word-small found)
+next-ranged needs lawful wide me place (AcquireExchange ask seen) found was ranged =
     elim (cases_Bool (found == word_number count_bits seen)) [
       | inl same ↦ rw same (granted-ranged needs place ask)
       | inr other ↦ rw other (decided-ranged needs place ask (word_of count_bits found) (word-small found))
@@ -222,7 +222,7 @@ next-ranged needs lawful wide me place (BackStore seen current newer line) found
 next-ranged needs lawful wide me place (Forward seen current count) found was ranged =
     looked-ranged needs lawful wide place seen current count (line_word_of found) ranged.0 ranged.1
 next-ranged needs lawful wide me place (CutToClose seen current count line) found was ranged = ranged
-next-ranged needs lawful wide me place (CutToGoRound seen current count line) found was ranged = ranged
+next-ranged needs lawful wide me place (CutForRetry seen current count line) found was ranged = ranged
 next-ranged needs lawful wide me place (Close seen count top) found was ranged = closing-ranged needs place seen count top found ranged.0 ranged.1
 next-ranged needs lawful wide me place (Empty seen current count line) found was ranged =
     let less : count - needs.takes line.request < 2 ^ count_bits = omega (arith, ranged.1) in
@@ -234,7 +234,7 @@ next-ranged needs lawful wide me place (Empty seen current count line) found was
             | inr between ↦ rw (other, between) (ranged.0, less)
           ]
     ]
-next-ranged needs lawful wide me place (GoRound seen count top) found was ranged =
+next-ranged needs lawful wide me place (Retry seen count top) found was ranged =
     elim (cases_Bool (top == 0)) [
       | inl none ↦ rw none (word-small (written_by (Add 0 (count - seen.count)) found))
       | inr some ↦ rw some (word-small (written_by (Add 0 (count - seen.count)) found))

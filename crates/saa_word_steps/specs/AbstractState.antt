@@ -5,7 +5,7 @@ use Rattle.saa_core_spec.specs.Held.{Exclusive, Shared}
 use Rattle.saa_core_spec.specs.Object.{one_if, times, without}
 use Rattle.saa_core_words.specs.Words.{lock_count}
 use Rattle.saa_word_steps.specs.declared.event.Event.{Event}
-use Rattle.saa_word_steps.specs.declared.event.Event.TheVariants.{Got, Refused, Joined, Gave, GaveNothing, Lowered, NotLowered, AskedPoisoned, Left, Closed, Poisoned, NotPoisoned, Cleared, NotCleared, NotReady, Granted, Showed, Took, Read}
+use Rattle.saa_word_steps.specs.declared.event.Event.TheVariants.{Acquired, Refused, Joined, Released, ReleasedNothing, Lowered, NotLowered, AskedPoisoned, Cancelled, Closed, Poisoned, NotPoisoned, Cleared, NotCleared, NotReady, Granted, Showed, AnswerTaken, Read}
 use Rattle.saa_word_steps.specs.Needs.{Needs, fits_count, left_count}
 
 -- What is held, as a count, and whether it is poisoned; the waiters, oldest first, each with the number of what it asks; whether
@@ -84,17 +84,17 @@ IsOwned needs state = (state.poisoned ≡ false) × (state.count ≡ lock_count 
 
 -- where an event of a place is enabled
 abbrev pub IsEnabled : Needs → AbstractState → ℕ → Event → Type 0
-IsEnabled needs state place (Got request) = (state.poisoned ≡ false) × (state.line ≡ []) × (fits_count needs state.count request ≡ true)
+IsEnabled needs state place (Acquired request) = (state.poisoned ≡ false) × (state.line ≡ []) × (fits_count needs state.count request ≡ true)
 IsEnabled needs state place (Refused request) = (state.poisoned ≡ false) × (must_wait needs state request ≡ true)
 IsEnabled needs state place (Joined request) =
     (state.poisoned ≡ false) × (must_wait needs state request ≡ true)
     × (is_in place state.line ≡ false) × (state.due place ≡ None) × (state.shown place ≡ None)
-IsEnabled needs state place (Gave request) = (state.poisoned ≡ false) × ((left : ℕ) × (left_count needs state.count request ≡ Some left))
-IsEnabled needs state place (GaveNothing request) = (state.poisoned ≡ false) → left_count needs state.count request ≡ None
+IsEnabled needs state place (Released request) = (state.poisoned ≡ false) × ((left : ℕ) × (left_count needs state.count request ≡ Some left))
+IsEnabled needs state place (ReleasedNothing request) = (state.poisoned ≡ false) → left_count needs state.count request ≡ None
 IsEnabled needs state place Lowered = IsOwned needs state
 IsEnabled needs state place NotLowered = IsOwned needs state → ⊥
 IsEnabled needs state place AskedPoisoned = state.poisoned ≡ true
-IsEnabled needs state place Left = is_in place state.line ≡ true
+IsEnabled needs state place Cancelled = is_in place state.line ≡ true
 IsEnabled needs state place (Granted askers) =
     (state.unclosed ≡ true) × (0 < askers) × (askers ≤ length state.line) × IsFront needs state.count (take askers state.line)
 IsEnabled needs state place Closed = (state.unclosed ≡ true) × IsSettledAt needs state.count state.line
@@ -103,7 +103,7 @@ IsEnabled needs state place NotPoisoned = IsOwned needs state → ⊥
 IsEnabled needs state place Cleared = state.poisoned ≡ true
 IsEnabled needs state place NotCleared = state.poisoned ≡ false
 IsEnabled needs state place (Showed shown_place) = (is_some (state.due shown_place) ≡ true) × (state.granter shown_place ≡ place)
-IsEnabled needs state place (Took value) = state.shown place ≡ Some value
+IsEnabled needs state place (AnswerTaken value) = state.shown place ≡ Some value
 IsEnabled needs state place NotReady = (is_in place state.line || is_some (state.due place)) ≡ true
 IsEnabled needs state place (Read count poisoned) = (state.count ≡ count) × (state.poisoned ≡ poisoned)
 
@@ -114,13 +114,13 @@ count_or count (Some left) = left
 
 -- what an event changes
 abbrev pub after_event : Needs → AbstractState → ℕ → Event → AbstractState
-after_event needs state place (Got request) = record state { count = state.count + needs.takes request }
+after_event needs state place (Acquired request) = record state { count = state.count + needs.takes request }
 after_event needs state place (Joined request) = record state { line = state.line ++ (place, request) ∷ [] }
-after_event needs state place (Gave request) =
+after_event needs state place (Released request) =
     record state { count = count_or state.count (left_count needs state.count request); unclosed = not (is_empty state.line) || state.unclosed }
 after_event needs state place Lowered =
     record state { count = lock_count (Shared 1); unclosed = not (is_empty state.line) || state.unclosed }
-after_event needs state place Left =
+after_event needs state place Cancelled =
     record state { line = without place state.line; unclosed = not (is_empty (without place state.line)) }
 after_event needs state place (Granted askers) =
     record state {
@@ -141,9 +141,9 @@ after_event needs state place Poisoned =
 after_event needs state place Cleared = record state { poisoned = false }
 after_event needs state place (Showed shown_place) =
     record state { due = with_answer shown_place None state.due; shown = with_answer shown_place (state.due shown_place) state.shown }
-after_event needs state place (Took value) = record state { shown = with_answer place None state.shown }
+after_event needs state place (AnswerTaken value) = record state { shown = with_answer place None state.shown }
 after_event needs state place (Refused request) = state
-after_event needs state place (GaveNothing request) = state
+after_event needs state place (ReleasedNothing request) = state
 after_event needs state place NotLowered = state
 after_event needs state place AskedPoisoned = state
 after_event needs state place NotPoisoned = state

@@ -13,18 +13,18 @@ use Rattle.saa_core_words.specs.Words.{count_bits, word_number, word_of, line_nu
 use Rattle.saa_word_steps.specs.declared.place.Place.{Place}
 use Rattle.saa_word_steps.specs.declared.place.Ask.{Ask}
 use Rattle.saa_word_steps.specs.declared.place.Registration.{Registration}
-use Rattle.saa_word_steps.specs.declared.place.Registration.TheVariants.{Idle, Once, Slot}
-use Rattle.saa_word_steps.specs.declared.place.Afterwards.{Afterwards}
-use Rattle.saa_word_steps.specs.declared.place.Afterwards.TheVariants.{Ends, Again}
-use Rattle.saa_word_steps.specs.declared.place.Given.{Given}
-use Rattle.saa_word_steps.specs.declared.place.Given.TheVariants.{Asked, AllButAShare}
-use Rattle.saa_word_steps.specs.declared.place.Back.{Back}
-use Rattle.saa_word_steps.specs.declared.place.Back.TheVariants.{Tells, Ends as EndsCall, Takes}
+use Rattle.saa_word_steps.specs.declared.place.Registration.TheVariants.{Idle, AnsweredAtOnce, Queued}
+use Rattle.saa_word_steps.specs.declared.place.AfterShow.{AfterShow}
+use Rattle.saa_word_steps.specs.declared.place.AfterShow.TheVariants.{Ends, Again}
+use Rattle.saa_word_steps.specs.declared.place.ReleaseAmount.{ReleaseAmount}
+use Rattle.saa_word_steps.specs.declared.place.ReleaseAmount.TheVariants.{Requested, AllButAShare}
+use Rattle.saa_word_steps.specs.declared.place.AfterWalk.{AfterWalk}
+use Rattle.saa_word_steps.specs.declared.place.AfterWalk.TheVariants.{Tells, Ends as EndsCall, Takes}
 use Rattle.saa_word_steps.specs.declared.place.Reading.TheVariants.{Available as ReadsAvailable, IsFree as ReadsFree, IsLocked as ReadsLocked, IsShared as ReadsShared, IsPoisoned as ReadsPoisoned}
-use Rattle.saa_word_steps.specs.declared.place.Taking.{Taking}
-use Rattle.saa_word_steps.specs.declared.place.Taking.TheVariants.{Tries, Awaits, Gives}
+use Rattle.saa_word_steps.specs.declared.place.PollMode.{PollMode}
+use Rattle.saa_word_steps.specs.declared.place.PollMode.TheVariants.{Tries, Awaits, Gives}
 use Rattle.saa_word_steps.specs.declared.place.Stage.{Stage}
-use Rattle.saa_word_steps.specs.declared.place.Stage.TheVariants.{Quiet, ReadLoad, AskLoad, AskExchange, Prepare, Join, ReleaseLoad, ReleaseExchange, BackLoad, BackStore, Forward, CutToClose, CutToGoRound, Close, Empty, GoRound, ShowLoad, ShowStore, Take, FlagLoad, FlagExchange, LookLoad, LookStore, Unlink, DropTail, PoisonLoad, PoisonExchange, Clear}
+use Rattle.saa_word_steps.specs.declared.place.Stage.TheVariants.{Quiet, ReadLoad, AcquireLoad, AcquireExchange, Prepare, Join, ReleaseLoad, ReleaseExchange, BackLoad, BackStore, Forward, CutToClose, CutForRetry, Close, Empty, Retry, ShowLoad, ShowStore, Take, FlagLoad, FlagExchange, LookLoad, LookStore, Unlink, DropTail, PoisonLoad, PoisonExchange, Clear}
 use Rattle.saa_word_steps.specs.declared.call.Answer.{Answer}
 use Rattle.saa_word_steps.specs.declared.call.Answer.TheVariants.{Bool as Says, Tried, Taken, Unit as Ended}
 use Rattle.saa_word_steps.specs.declared.call.WordCall.{WordCall}
@@ -43,7 +43,7 @@ IsSmall word = word.count < 2 ^ count_bits
 
 -- what is remembered is within the bits of a count
 abbrev pub IsRanged : Needs → Stage → Type 0
-IsRanged needs (AskExchange ask seen) = IsSmall seen × (fits_count needs seen.count ask.request ≡ true)
+IsRanged needs (AcquireExchange ask seen) = IsSmall seen × (fits_count needs seen.count ask.request ≡ true)
 IsRanged needs (Prepare request seen) = IsSmall seen
 IsRanged needs (Join request seen) = IsSmall seen
 IsRanged needs (ReleaseExchange given seen) = IsSmall seen
@@ -53,8 +53,8 @@ IsRanged needs (BackLoad seen current newer) = IsSmall seen
 IsRanged needs (BackStore seen current newer line) = IsSmall seen
 IsRanged needs (Forward seen current count) = IsSmall seen × (count < 2 ^ count_bits)
 IsRanged needs (CutToClose seen current count line) = IsSmall seen × (count < 2 ^ count_bits)
-IsRanged needs (CutToGoRound seen current count line) = IsSmall seen × (count < 2 ^ count_bits)
-IsRanged needs (GoRound seen count top) = IsSmall seen × (count < 2 ^ count_bits)
+IsRanged needs (CutForRetry seen current count line) = IsSmall seen × (count < 2 ^ count_bits)
+IsRanged needs (Retry seen count top) = IsSmall seen × (count < 2 ^ count_bits)
 IsRanged needs (FlagExchange seen) = IsSmall seen
 IsRanged needs (LookLoad seen current newer previous) = IsSmall seen
 IsRanged needs (LookStore seen current newer line) = IsSmall seen
@@ -71,10 +71,10 @@ IsWork (BackLoad seen current newer) = Unit {0}
 IsWork (BackStore seen current newer line) = Unit {0}
 IsWork (Forward seen current count) = Unit {0}
 IsWork (CutToClose seen current count line) = Unit {0}
-IsWork (CutToGoRound seen current count line) = Unit {0}
+IsWork (CutForRetry seen current count line) = Unit {0}
 IsWork (Close seen count top) = Unit {0}
 IsWork (Empty seen current count line) = Unit {0}
-IsWork (GoRound seen count top) = Unit {0}
+IsWork (Retry seen count top) = Unit {0}
 IsWork (ShowLoad current value afterwards) = Unit {0}
 IsWork (ShowStore current next value afterwards) = Unit {0}
 IsWork _ = ⊥
@@ -97,12 +97,12 @@ IsPoison Clear = Unit {0}
 IsPoison _ = ⊥
 
 -- the count that is left once this is given back, where it is held
-abbrev pub left_from : Needs → ℕ → Given → Option ℕ
-left_from needs count (Asked request) = left_count needs count request
+abbrev pub left_from : Needs → ℕ → ReleaseAmount → Option ℕ
+left_from needs count (Requested request) = left_count needs count request
 left_from needs count AllButAShare = if needs.is_lock && (count == lock_count Exclusive) then Some (lock_count (Shared 1)) else None
 
 -- the main word once something is given back: the flag is set where somebody waits
-abbrev pub released : Needs → Word → Given → Word
+abbrev pub released : Needs → Word → ReleaseAmount → Word
 released needs seen given = record {
   count = count_or seen.count (left_from needs seen.count given);
   is_flagged = seen.is_flagged || not (seen.tail == 0);
@@ -130,8 +130,8 @@ exchanged seen new = Exchange 0 (word_number count_bits seen) (word_number count
 abbrev pub operation_of : Needs → ℕ → ℕ → Stage → Operation
 operation_of needs places me Quiet = Load 0
 operation_of needs places me (ReadLoad reading) = Load 0
-operation_of needs places me (AskLoad ask) = Load 0
-operation_of needs places me (AskExchange ask seen) = exchanged seen (record seen { count = seen.count + needs.takes ask.request })
+operation_of needs places me (AcquireLoad ask) = Load 0
+operation_of needs places me (AcquireExchange ask seen) = exchanged seen (record seen { count = seen.count + needs.takes ask.request })
 operation_of needs places me (Prepare request seen) = Store (me + 1) (line_number (record { request = request; older = seen.tail; newer = 0 }))
 operation_of needs places me (Join request seen) = exchanged seen (record seen { tail = me + 1 })
 operation_of needs places me (ReleaseLoad given) = Load 0
@@ -140,10 +140,10 @@ operation_of needs places me (BackLoad seen current newer) = Load current
 operation_of needs places me (BackStore seen current newer line) = Store current (line_number (record line { newer = newer }))
 operation_of needs places me (Forward seen current count) = Load current
 operation_of needs places me (CutToClose seen current count line) = Store current (line_number (record line { older = 0 }))
-operation_of needs places me (CutToGoRound seen current count line) = Store current (line_number (record line { older = 0 }))
+operation_of needs places me (CutForRetry seen current count line) = Store current (line_number (record line { older = 0 }))
 operation_of needs places me (Close seen count top) = exchanged seen (settled_word count seen.tail)
 operation_of needs places me (Empty seen current count line) = exchanged seen (settled_word count 0)
-operation_of needs places me (GoRound seen count top) = Add 0 (count - seen.count)
+operation_of needs places me (Retry seen count top) = Add 0 (count - seen.count)
 operation_of needs places me (ShowLoad current value afterwards) = Load current
 operation_of needs places me (ShowStore current next value afterwards) = Store (places + current) (answer_number (Some value))
 operation_of needs places me (Take taking) = Swap (places + me + 1) 0
@@ -181,7 +181,7 @@ abbrev pub done : Place → Answer → Next
 done place answer = Done (record place { stage = Quiet }) answer
 
 -- a place that is done with the line: it answers, or goes on to its own answer
-abbrev pub finished : Place → Back → Next
+abbrev pub finished : Place → AfterWalk → Next
 finished place Tells = done place (Says true)
 finished place EndsCall = done place Ended
 finished place (Takes request) = going place (Take (Gives request))
@@ -190,14 +190,14 @@ finished place (Takes request) = going place (Take (Gives request))
 abbrev pub granted : Needs → Place → Ask → Next
 granted needs place ask =
     if ask.joins
-    then Done (record place { registration = Once granted_value ask.request; stage = Quiet }) (Says true)
+    then Done (record place { registration = AnsweredAtOnce granted_value ask.request; stage = Quiet }) (Says true)
     else done place (tried_answer needs true)
 
 -- a registration at a poisoned lock is answered so at once
 abbrev pub found_poisoned : Place → Ask → Next
 found_poisoned place ask =
     if ask.joins
-    then Done (record place { registration = Once poisoned_value ask.request; stage = Quiet }) (Says true)
+    then Done (record place { registration = AnsweredAtOnce poisoned_value ask.request; stage = Quiet }) (Says true)
     else done place (Tried (try_answer false true))
 
 -- how an ask goes on with the main word that it saw: it waits behind others and where it doesn't fit, what takes nothing is granted
@@ -208,20 +208,20 @@ decided needs place ask seen =
     then found_poisoned place ask
     else (if not (seen.tail == 0) || not (fits_count needs seen.count ask.request)
     then (if ask.joins then going place (Prepare ask.request seen) else done place (tried_answer needs false))
-    else (if needs.takes ask.request == 0 then granted needs place ask else going place (AskExchange ask seen)))
+    else (if needs.takes ask.request == 0 then granted needs place ask else going place (AcquireExchange ask seen)))
 
 -- nothing was given back: a release says so, and a cancel is done
-abbrev pub gave_nothing : Place → Back → Next
+abbrev pub gave_nothing : Place → AfterWalk → Next
 gave_nothing place Tells = done place (Says false)
 gave_nothing place EndsCall = done place Ended
 gave_nothing place (Takes request) = done place Ended
 
 -- how a release goes on with the main word that it saw
-abbrev pub given_to : Place → Given → Word → Option ℕ → Next
+abbrev pub given_to : Place → ReleaseAmount → Word → Option ℕ → Next
 given_to place what seen None = gave_nothing place place.back
 given_to place what seen (Some left) = going place (ReleaseExchange what seen)
 
-abbrev pub given : Needs → Place → Given → Word → Next
+abbrev pub given : Needs → Place → ReleaseAmount → Word → Next
 given needs place what seen =
     if seen.is_poisoned then gave_nothing place place.back else given_to place what seen (left_from needs seen.count what)
 
@@ -230,7 +230,7 @@ abbrev pub walking : Place → Word → Next
 walking place seen = going place (BackLoad seen seen.tail 0)
 
 -- behind the last answer that is shown
-abbrev pub shown_all : Place → Afterwards → Next
+abbrev pub shown_all : Place → AfterShow → Next
 shown_all place Ends = finished place place.back
 shown_all place (Again seen) = walking place seen
 
@@ -238,11 +238,11 @@ shown_all place (Again seen) = walking place seen
 abbrev pub dropped : Needs → Place → ℕ → ℕ → Next
 dropped needs place request value =
     if value == granted_value && not (needs.takes request == 0)
-    then Going (record place { registration = Idle; stage = ReleaseLoad (Asked request); back = EndsCall })
+    then Going (record place { registration = Idle; stage = ReleaseLoad (Requested request); back = EndsCall })
     else Done (record place { registration = Idle; stage = Quiet }) Ended
 
 -- the answer that is taken; where none is there a poll that waits and a cancel stay as they are
-abbrev pub taken_answer : Needs → Place → Taking → Option ℕ → Next
+abbrev pub taken_answer : Needs → Place → PollMode → Option ℕ → Next
 taken_answer needs place (Gives request) (Some value) = dropped needs place request value
 taken_answer needs place (Gives request) None = Waits
 taken_answer needs place Awaits (Some value) = Done (record place { registration = Idle; stage = Quiet }) (Taken (Ok (value == granted_value)))
@@ -268,7 +268,7 @@ closing place seen count top found =
     then (if top == 0 then finished place place.back else going place (ShowLoad top granted_value Ends))
     else (if (word_of count_bits found).count == seen.count
     then going place (Close (word_of count_bits found) count top)
-    else going place (GoRound seen count top))
+    else going place (Retry seen count top))
 
 -- how a cancel goes on with the main word that it saw: it waits for the flag's holder, goes on to its answer where nobody waits,
 -- and else is to set the flag
@@ -307,13 +307,13 @@ abbrev pub next_of : Needs → ℕ → Place → Stage → ℕ → Next
 next_of needs me place Quiet found = Going place
 next_of needs me place (ReadLoad reading) found =
     done place (read_as needs reading (word_of count_bits found).count (word_of count_bits found).is_poisoned)
-next_of needs me place (AskLoad ask) found = decided needs place ask (word_of count_bits found)
-next_of needs me place (AskExchange ask seen) found =
+next_of needs me place (AcquireLoad ask) found = decided needs place ask (word_of count_bits found)
+next_of needs me place (AcquireExchange ask seen) found =
     if found == word_number count_bits seen then granted needs place ask else decided needs place ask (word_of count_bits found)
 next_of needs me place (Prepare request seen) found = going place (Join request seen)
 next_of needs me place (Join request seen) found =
     if found == word_number count_bits seen
-    then Done (record place { registration = Slot request; stage = Quiet }) (Says true)
+    then Done (record place { registration = Queued request; stage = Quiet }) (Says true)
     else decided needs place (record { request = request; joins = true }) (word_of count_bits found)
 next_of needs me place (ReleaseLoad what) found = given needs place what (word_of count_bits found)
 next_of needs me place (ReleaseExchange what seen) found =
@@ -327,15 +327,15 @@ next_of needs me place (BackStore seen current newer line) found =
     if line.older == 0 then going place (Forward seen current seen.count) else going place (BackLoad seen line.older current)
 next_of needs me place (Forward seen current count) found = looked_at needs place seen current count (line_word_of found)
 next_of needs me place (CutToClose seen current count line) found = going place (Close seen count line.older)
-next_of needs me place (CutToGoRound seen current count line) found = going place (GoRound seen count line.older)
+next_of needs me place (CutForRetry seen current count line) found = going place (Retry seen count line.older)
 next_of needs me place (Close seen count top) found = closing place seen count top found
 next_of needs me place (Empty seen current count line) found =
     if found == word_number count_bits seen
     then going place (ShowLoad current granted_value Ends)
     else (if line.older == 0
-    then going place (GoRound seen (count - needs.takes line.request) 0)
-    else going place (CutToGoRound seen current (count - needs.takes line.request) line))
-next_of needs me place (GoRound seen count top) found =
+    then going place (Retry seen (count - needs.takes line.request) 0)
+    else going place (CutForRetry seen current (count - needs.takes line.request) line))
+next_of needs me place (Retry seen count top) found =
     let now : Word = word_of count_bits (written_by (Add 0 (count - seen.count)) found) in
     if top == 0 then walking place now else going place (ShowLoad top granted_value (Again now))
 next_of needs me place (ShowLoad current value afterwards) found = going place (ShowStore current (line_word_of found).older value afterwards)
@@ -364,26 +364,26 @@ next_of needs me place (PoisonExchange seen) found =
 next_of needs me place Clear found = done place (Says (found == word_number count_bits poisoned_word))
 
 -- a poll as it starts: only a place that joined the line has a word to look at
-abbrev pub polled_as : Place → Taking → Registration → Next
+abbrev pub polled_as : Place → PollMode → Registration → Next
 polled_as place taking Idle = Done place (Taken (Err NotRegistered))
-polled_as place taking (Once value request) = Done (record place { registration = Idle }) (Taken (Ok (value == granted_value)))
-polled_as place taking (Slot request) = going place (Take taking)
+polled_as place taking (AnsweredAtOnce value request) = Done (record place { registration = Idle }) (Taken (Ok (value == granted_value)))
+polled_as place taking (Queued request) = going place (Take taking)
 
 -- a cancel as it starts: only a place that joined the line has a word to look at
 abbrev pub cancelled_as : Needs → Place → Registration → Next
 cancelled_as needs place Idle = Done place Ended
-cancelled_as needs place (Once value request) = dropped needs place request value
-cancelled_as needs place (Slot request) = Going (record place { stage = FlagLoad; back = Takes request })
+cancelled_as needs place (AnsweredAtOnce value request) = dropped needs place request value
+cancelled_as needs place (Queued request) = Going (record place { stage = FlagLoad; back = Takes request })
 
 -- a try, a registration and a release as they start
 abbrev pub tried_as : Place → ℕ → Next
-tried_as place request = going place (AskLoad (record { request = request; joins = false }))
+tried_as place request = going place (AcquireLoad (record { request = request; joins = false }))
 
 abbrev pub registered_as : Place → ℕ → Next
 registered_as place request =
-    if is_idle place.registration then going place (AskLoad (record { request = request; joins = true })) else Done place (Says false)
+    if is_idle place.registration then going place (AcquireLoad (record { request = request; joins = true })) else Done place (Says false)
 
-abbrev pub released_as : Place → Given → Next
+abbrev pub released_as : Place → ReleaseAmount → Next
 released_as place what = Going (record place { stage = ReleaseLoad what; back = Tells })
 
 -- a call as it starts, at a place that is in none: no word is looked at
@@ -391,13 +391,13 @@ abbrev pub started : Needs → Place → WordCall → Next
 started needs place (Try count) = if nat_lt needs.top count then Done place (Says false) else tried_as place count
 started needs place (Register count) = if nat_lt needs.top count then Done place (Says false) else registered_as place count
 started needs place (Release count) =
-    if nat_lt needs.top count then Done place (Says false) else (if count == 0 then Done place (Says true) else released_as place (Asked count))
+    if nat_lt needs.top count then Done place (Says false) else (if count == 0 then Done place (Says true) else released_as place (Requested count))
 started needs place Available = going place (ReadLoad ReadsAvailable)
 started needs place TryLock = tried_as place 0
 started needs place TryShare = tried_as place 1
 started needs place (RegisterMode mode) = registered_as place (mode_number mode)
-started needs place ReleaseLock = released_as place (Asked 0)
-started needs place ReleaseShare = released_as place (Asked 1)
+started needs place ReleaseLock = released_as place (Requested 0)
+started needs place ReleaseShare = released_as place (Requested 1)
 started needs place Downgrade = released_as place AllButAShare
 started needs place PoisonLock = Going (record place { stage = PoisonLoad; back = Tells })
 started needs place ClearPoison = going place Clear

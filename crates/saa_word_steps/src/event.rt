@@ -6,15 +6,15 @@
 #[derive(Clone, Copy, Debug, Eq, PartialEq)]
 pub enum Event {
     /// An ask is granted at once.
-    Got(u16),
+    Acquired(u16),
     /// A try is refused.
     Refused(u16),
     /// A registration joins the line.
     Joined(u16),
     /// Something is given back.
-    Gave(u16),
+    Released(u16),
     /// Something that isn't held is given back.
-    GaveNothing(u16),
+    ReleasedNothing(u16),
     /// One owner has a share from now on.
     Lowered,
     /// No one owner has the lock, so nothing is lowered.
@@ -22,7 +22,7 @@ pub enum Event {
     /// An ask finds the lock poisoned.
     AskedPoisoned,
     /// A place leaves the line.
-    Left,
+    Cancelled,
     /// The line is settled.
     Closed,
     /// The lock is poisoned.
@@ -40,7 +40,7 @@ pub enum Event {
     /// The answer of this place is shown.
     Showed(u16),
     /// A place takes its answer.
-    Took(u8),
+    AnswerTaken(u8),
     /// The count is read, and whether the lock is poisoned.
     Read(u16, bool),
 }

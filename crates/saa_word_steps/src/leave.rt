@@ -9,7 +9,7 @@ ghost use Rattle.saa_word_steps.specs.Needs.{needs_of};
 
 use crate::call::Answer;
 use crate::operation::{dropped, flagged};
-use crate::place::{Back, Next, Place, Registration, Stage};
+use crate::place::{AfterWalk, Next, Place, Registration, Stage};
 use crate::rules::Rules;
 use saa_core_words::line_word::LineWord;
 use saa_core_words::word::Word;
@@ -145,7 +145,7 @@ impl Place {
     {
         Place {
             registration: Registration::Idle,
-            back: Back::Ends,
+            back: AfterWalk::Ends,
             ..self
         }
     }

@@ -7,7 +7,7 @@ ghost use Rattle.saa_word_steps.specs.Needs.{needs_of};
 ghost use Rattle.saa_word_steps.specs.Readings.{poisoned_word};
 ghost use Rattle.saa_core_words.specs.Words.{count_bits, line_number};
 
-use crate::place::{Given, Stage};
+use crate::place::{ReleaseAmount, Stage};
 use crate::rules::Rules;
 use saa_core_words::answer_word;
 use saa_core_words::line_word::LineWord;
@@ -43,11 +43,11 @@ impl Stage {
         match self {
             Stage::Quiet
             | Stage::ReadLoad { .. }
-            | Stage::AskLoad { .. }
+            | Stage::AcquireLoad { .. }
             | Stage::ReleaseLoad { .. }
             | Stage::FlagLoad
             | Stage::PoisonLoad => main,
-            Stage::AskExchange { ask, seen } => {
+            Stage::AcquireExchange { ask, seen } => {
                 let count = rules.plus(seen.count, ask.request);
                 exchange(seen, Word { count, ..seen })
             }
@@ -85,14 +85,14 @@ impl Stage {
                 line,
                 ..
             } => store(current, LineWord { newer, ..line }),
-            Stage::CutToClose { current, line, .. } | Stage::CutToGoRound { current, line, .. } => {
+            Stage::CutToClose { current, line, .. } | Stage::CutForRetry { current, line, .. } => {
                 store(current, LineWord { older: 0, ..line })
             }
             Stage::Close { seen, count, .. } => exchange(seen, settled(count, seen.tail)),
             Stage::Empty { seen, count, .. } => exchange(seen, settled(count, 0)),
             // Why this order: what was granted is added, and the count isn't written back; written back, it would undo each release in place
             // since the walk.
-            Stage::GoRound { seen, count, .. } => Operation::Add {
+            Stage::Retry { seen, count, .. } => Operation::Add {
                 index: 0,
                 number: u64::from(count.saturating_sub(seen.count)),
             },
@@ -142,7 +142,7 @@ fn store(link: u16, line: LineWord) -> Operation
 }
 
 /// The main word once something is given back, where that is held.
-pub(crate) fn released(rules: Rules, seen: Word, given: Given) -> Word
+pub(crate) fn released(rules: Rules, seen: Word, given: ReleaseAmount) -> Word
     requires { IsSmall seen }
     ensures released { result ≡ released (needs_of rules) seen given }
     ensures small { IsSmall result }

@@ -15,9 +15,9 @@ pub enum Registration {
     /// It is idle.
     Idle,
     /// It was answered as it asked: the value, and the number of what it asked.
-    Once(u8, u16),
+    AnsweredAtOnce(u8, u16),
     /// It joined the line, and asked this. It waits, or is to be answered, or has an answer.
-    Slot(u16),
+    Queued(u16),
 }
 
 /// What a place asks for.
@@ -31,16 +31,16 @@ pub struct Ask {
 
 /// What a place gives back.
 #[derive(Clone, Copy, Debug, Eq, PartialEq)]
-pub enum Given {
+pub enum ReleaseAmount {
     /// What a request took, by the request's number.
-    Asked(u16),
+    Requested(u16),
     /// All that one owner of a lock has but a share.
     AllButAShare,
 }
 
 /// How a place that shows answers goes on behind the last.
 #[derive(Clone, Copy, Debug, Eq, PartialEq)]
-pub enum Afterwards {
+pub enum AfterShow {
     /// It is done with the line.
     Ends,
     /// It keeps the flag, and walks again from the word that it saw.
@@ -49,7 +49,7 @@ pub enum Afterwards {
 
 /// What a place does that worked on the line, once it is done with it.
 #[derive(Clone, Copy, Debug, Eq, PartialEq)]
-pub enum Back {
+pub enum AfterWalk {
     /// It answers that it gave something back, or poisoned the lock.
     Tells,
     /// It answers that it gave its registration up.
@@ -75,7 +75,7 @@ pub enum Reading {
 
 /// What a place does that takes its own answer.
 #[derive(Clone, Copy, Debug, Eq, PartialEq)]
-pub enum Taking {
+pub enum PollMode {
     /// It polls, and answers too where there is none yet.
     Tries,
     /// It polls, and waits for it.
@@ -94,11 +94,11 @@ pub enum Stage {
         reading: Reading,
     },
     /// It loads the main word to ask.
-    AskLoad {
+    AcquireLoad {
         ask: Ask,
     },
     /// It exchanges the word that it saw for one with the count raised.
-    AskExchange {
+    AcquireExchange {
         ask: Ask,
         seen: Word,
     },
@@ -114,11 +114,11 @@ pub enum Stage {
     },
     /// It loads the main word to give something back.
     ReleaseLoad {
-        given: Given,
+        given: ReleaseAmount,
     },
     /// It exchanges the word that it saw for one with the count lowered.
     ReleaseExchange {
-        given: Given,
+        given: ReleaseAmount,
         seen: Word,
     },
     /// It holds the flag, and loads a line word on its way from the tail to the oldest.
@@ -147,8 +147,8 @@ pub enum Stage {
         count: u16,
         line: LineWord,
     },
-    /// It cuts the last one off those before it, to go round.
-    CutToGoRound {
+    /// It cuts the last one off those before it, to retry.
+    CutForRetry {
         seen: Word,
         current: u16,
         count: u16,
@@ -168,7 +168,7 @@ pub enum Stage {
         line: LineWord,
     },
     /// It adds what was granted to the count, and keeps the flag; `top` is the newest of those.
-    GoRound {
+    Retry {
         seen: Word,
         count: u16,
         top: u16,
@@ -177,18 +177,18 @@ pub enum Stage {
     ShowLoad {
         current: u16,
         value: u8,
-        afterwards: Afterwards,
+        afterwards: AfterShow,
     },
     /// It writes that place's answer; `next` is the place right before it.
     ShowStore {
         current: u16,
         next: u16,
         value: u8,
-        afterwards: Afterwards,
+        afterwards: AfterShow,
     },
     /// It takes its own answer.
     Take {
-        taking: Taking,
+        taking: PollMode,
     },
     /// It loads the main word to set the flag, since it cancels.
     FlagLoad,
@@ -240,7 +240,7 @@ pub struct Place {
     /// Where it stands in its call.
     pub stage: Stage,
     /// What it does once it is done with the line, where it works on that.
-    pub back: Back,
+    pub back: AfterWalk,
 }
 
 /// How a place goes on behind a step.

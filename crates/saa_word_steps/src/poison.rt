@@ -6,7 +6,7 @@ ghost use Rattle.saa_word_steps.specs.Needs.{needs_of};
 
 use crate::call::Answer;
 use crate::operation::poisoned;
-use crate::place::{Afterwards, Next, Place, Stage};
+use crate::place::{AfterShow, Next, Place, Stage};
 use crate::resume::POISONED;
 use crate::rules::{ALONE, Rules};
 use saa_core_words::word::Word;
@@ -27,7 +27,7 @@ impl Place {
                 if seen.tail == 0 {
                     return self.finish();
                 }
-                self.show(seen.tail, POISONED, Afterwards::Ends)
+                self.show(seen.tail, POISONED, AfterShow::Ends)
             }
             Stage::Clear => self.done(Answer::Bool(found == poisoned().pack())),
             _ => Next::Going(self),

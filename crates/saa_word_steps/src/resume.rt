@@ -4,7 +4,7 @@ ghost use Rattle.std.specs.Prelude.{◌^◌, ◌≡◌, ◌<◌, ◌==◌, ◌%�
 ghost use Rattle.saa_core_words.specs.Words.{count_bits, answer_of};
 ghost use Rattle.saa_core_spec.specs.Values.{granted_value};
 ghost use Rattle.saa_word_steps.specs.declared.place.Stage.TheVariants.{Join, ReleaseExchange, BackLoad, Forward, Empty, ShowLoad};
-ghost use Rattle.saa_word_steps.specs.declared.place.Afterwards.TheVariants.{Again};
+ghost use Rattle.saa_word_steps.specs.declared.place.AfterShow.TheVariants.{Again};
 ghost use Rattle.saa_word_steps.specs.Steps.{next_of, IsRanged, IsSmall, IsWork, IsLeave, IsPoison, closing, decided, done, dropped, finished, found_poisoned, gave_nothing, given, going, granted, looked_at, shown_all, taken_answer, walking};
 ghost use Rattle.saa_word_steps.specs.Needs.{needs_of};
 ghost use Rattle.saa_word_steps.specs.Readings.{read_as, tried_answer};
@@ -12,7 +12,7 @@ ghost use Rattle.saa_word_steps.specs.Readings.{read_as, tried_answer};
 use crate::call::{Answer, Error, TryLockError};
 use crate::operation::released;
 use crate::place::{
-    Afterwards, Ask, Back, Given, Next, Place, Reading, Registration, Stage, Taking,
+    AfterShow, AfterWalk, Ask, Next, Place, PollMode, Reading, Registration, ReleaseAmount, Stage,
 };
 use crate::rules::{ALONE, Rules};
 use saa_core_words::answer_word;
@@ -34,8 +34,8 @@ impl Place {
         match self.stage {
             Stage::Quiet => Next::Going(self),
             Stage::ReadLoad { reading } => { self.done(read(rules, reading, Word::unpack(found))) }
-            Stage::AskLoad { ask } => self.decide(rules, ask, Word::unpack(found)),
-            Stage::AskExchange { ask, seen } => {
+            Stage::AcquireLoad { ask } => self.decide(rules, ask, Word::unpack(found)),
+            Stage::AcquireExchange { ask, seen } => {
                 if found == seen.pack() {
                     return self.granted(rules, ask);
                 }
@@ -104,14 +104,14 @@ impl Place {
                 let top = line.older;
                 self.going(Stage::Close { seen, count, top })
             }
-            Stage::CutToGoRound {
+            Stage::CutForRetry {
                 seen,
                 count,
                 line,
                 ..
             } => {
                 let top = line.older;
-                self.going(Stage::GoRound { seen, count, top })
+                self.going(Stage::Retry { seen, count, top })
             }
             Stage::Close { seen, count, top } => self.closed(seen, count, top, found),
             Stage::Empty {
@@ -120,7 +120,7 @@ impl Place {
                 count,
                 line,
             } => self.emptied(rules, me, seen, current, count, line, found),
-            Stage::GoRound { seen, count, top } => {
+            Stage::Retry { seen, count, top } => {
                 let added = u64::from(count.saturating_sub(seen.count));
                 self.went_round(top, Word::unpack(found.wrapping_add(added)))
             }
@@ -169,10 +169,10 @@ impl Place {
         ensures { result ≡ finished self self.back }
     {
         match self.back {
-            Back::Tells => self.done(Answer::Bool(true)),
-            Back::Ends => self.done(Answer::Unit),
-            Back::Takes(request) => {
-                let taking = Taking::Gives(request);
+            AfterWalk::Tells => self.done(Answer::Bool(true)),
+            AfterWalk::Ends => self.done(Answer::Unit),
+            AfterWalk::Takes(request) => {
+                let taking = PollMode::Gives(request);
                 self.going(Stage::Take { taking })
             }
         }
@@ -185,7 +185,7 @@ impl Place {
         if !ask.joins {
             return self.done(tried(rules, true));
         }
-        let registration = Registration::Once(GRANTED, ask.request);
+        let registration = Registration::AnsweredAtOnce(GRANTED, ask.request);
         Place {
             registration,
             ..self
@@ -200,7 +200,7 @@ impl Place {
         if !ask.joins {
             return self.done(Answer::Tried(Err(TryLockError::Poisoned)));
         }
-        let registration = Registration::Once(POISONED, ask.request);
+        let registration = Registration::AnsweredAtOnce(POISONED, ask.request);
         Place {
             registration,
             ..self
@@ -225,7 +225,7 @@ impl Place {
         if rules.takes(request) == 0 {
             return self.granted(rules, ask);
         }
-        self.going(Stage::AskExchange { ask, seen })
+        self.going(Stage::AcquireExchange { ask, seen })
     }
 
     // It joined the line, or the word that was found decides anew.
@@ -240,7 +240,7 @@ impl Place {
             let joins = true;
             return self.decide(rules, Ask { request, joins }, Word::unpack(found));
         }
-        let registration = Registration::Slot(request);
+        let registration = Registration::Queued(request);
         Place {
             registration,
             ..self
@@ -249,7 +249,7 @@ impl Place {
     }
 
     // How a release goes on with the main word that it saw.
-    fn give(self, rules: Rules, what: Given, seen: Word) -> Next
+    fn give(self, rules: Rules, what: ReleaseAmount, seen: Word) -> Next
         ensures { result ≡ given (needs_of rules) self what seen }
     {
         if seen.is_poisoned || rules.left(seen.count, what).is_none() {
@@ -264,13 +264,13 @@ impl Place {
         ensures { result ≡ gave_nothing self self.back }
     {
         match self.back {
-            Back::Tells => self.done(Answer::Bool(false)),
-            Back::Ends | Back::Takes(_) => self.done(Answer::Unit),
+            AfterWalk::Tells => self.done(Answer::Bool(false)),
+            AfterWalk::Ends | AfterWalk::Takes(_) => self.done(Answer::Unit),
         }
     }
 
     // It gave back, and holds the flag where there are waiters that no other holder settles; or the word that was found decides anew.
-    fn given(self, rules: Rules, me: u16, what: Given, seen: Word, found: u64) -> Next
+    fn given(self, rules: Rules, me: u16, what: ReleaseAmount, seen: Word, found: u64) -> Next
         requires { IsSmall seen }
         ensures { result ≡ next_of (needs_of rules) me self (ReleaseExchange what seen) found }
     {
@@ -362,14 +362,14 @@ impl Place {
             if top == 0 {
                 return self.finish();
             }
-            return self.show(top, GRANTED, Afterwards::Ends);
+            return self.show(top, GRANTED, AfterShow::Ends);
         }
         let now = Word::unpack(found);
         if now.count == seen.count {
             let seen = now;
             return self.going(Stage::Close { seen, count, top });
         }
-        self.going(Stage::GoRound { seen, count, top })
+        self.going(Stage::Retry { seen, count, top })
     }
 
     // It granted all waiters; or the last one isn't granted, and it walks anew.
@@ -390,14 +390,14 @@ impl Place {
         ensures { result ≡ next_of (needs_of rules) me self (Empty seen current count line) found }
     {
         if found == seen.pack() {
-            return self.show(current, GRANTED, Afterwards::Ends);
+            return self.show(current, GRANTED, AfterShow::Ends);
         }
         let count = count.saturating_sub(rules.takes(line.request));
         if line.older == 0 {
             let top = 0;
-            return self.going(Stage::GoRound { seen, count, top });
+            return self.going(Stage::Retry { seen, count, top });
         }
-        self.going(Stage::CutToGoRound {
+        self.going(Stage::CutForRetry {
             seen,
             current,
             count,
@@ -412,11 +412,11 @@ impl Place {
         if top == 0 {
             return self.walk(now);
         }
-        self.show(top, GRANTED, Afterwards::Again(now))
+        self.show(top, GRANTED, AfterShow::Again(now))
     }
 
     // It shows answers, from a link on.
-    pub(crate) fn show(self, current: u16, value: u8, afterwards: Afterwards) -> Next
+    pub(crate) fn show(self, current: u16, value: u8, afterwards: AfterShow) -> Next
         ensures { result ≡ going self (ShowLoad current value afterwards) }
     {
         self.going(Stage::ShowLoad {
@@ -427,7 +427,7 @@ impl Place {
     }
 
     // It showed an answer, and goes on to the place right before, or is done with showing.
-    fn showed(self, next: u16, value: u8, afterwards: Afterwards) -> Next
+    fn showed(self, next: u16, value: u8, afterwards: AfterShow) -> Next
         ensures { result ≡ if next == 0 then shown_all self afterwards else going self (ShowLoad next value afterwards) }
     {
         if next != 0 {
@@ -439,22 +439,22 @@ impl Place {
             });
         }
         match afterwards {
-            Afterwards::Ends => self.finish(),
-            Afterwards::Again(seen) => self.walk(seen),
+            AfterShow::Ends => self.finish(),
+            AfterShow::Again(seen) => self.walk(seen),
         }
     }
 
     // It took its answer, or found none.
-    fn taken(self, rules: Rules, taking: Taking, found: u64) -> Next
+    fn taken(self, rules: Rules, taking: PollMode, found: u64) -> Next
         ensures { result ≡ taken_answer (needs_of rules) self taking (answer_of (found % 65536)) }
     {
         let Some(value) = answer_word::unpack((found % 65_536) as u16) else {
             return match taking {
-                Taking::Tries => self.done(Answer::Taken(Err(Error::NotReady))),
-                Taking::Awaits | Taking::Gives(_) => Next::Waits,
+                PollMode::Tries => self.done(Answer::Taken(Err(Error::NotReady))),
+                PollMode::Awaits | PollMode::Gives(_) => Next::Waits,
             };
         };
-        if let Taking::Gives(request) = taking {
+        if let PollMode::Gives(request) = taking {
             return self.drop_answer(rules, request, value);
         }
         let registration = Registration::Idle;
@@ -471,11 +471,11 @@ impl Place {
     {
         let registration = Registration::Idle;
         if value == GRANTED && rules.takes(request) != 0 {
-            let given = Given::Asked(request);
+            let given = ReleaseAmount::Requested(request);
             return Next::Going(Place {
                 registration,
                 stage: Stage::ReleaseLoad { given },
-                back: Back::Ends,
+                back: AfterWalk::Ends,
             });
         }
         Place {

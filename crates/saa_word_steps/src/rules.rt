@@ -4,7 +4,7 @@ ghost use Rattle.std.specs.Prelude.{◌≡◌, ◌+◌, ◌-◌, ◌≤◌, true
 ghost use Rattle.saa_word_steps.specs.Needs.{fits_count, left_count, needs_of};
 ghost use Rattle.saa_word_steps.specs.Steps.{left_from};
 
-use crate::place::Given;
+use crate::place::ReleaseAmount;
 
 /// The count of a lock that one owner has alone.
 pub(crate) const ALONE: u16 = 63;
@@ -103,13 +103,13 @@ impl Rules {
     }
 
     /// The count once this is given back; `None` where that isn't held.
-    pub fn left(self, count: u16, given: Given) -> Option<u16>
+    pub fn left(self, count: u16, given: ReleaseAmount) -> Option<u16>
         ensures left { result ≡ left_from (needs_of self) count given }
         ensures shrinks { IfSome result (λ left. left ≤ count) }
     {
         match given {
-            Given::Asked(request) => self.less(count, request),
-            Given::AllButAShare => {
+            ReleaseAmount::Requested(request) => self.less(count, request),
+            ReleaseAmount::AllButAShare => {
                 if self.is_lock() && count == ALONE {
                     return Some(1);
                 }

@@ -7,7 +7,9 @@ ghost use Rattle.saa_word_steps.specs.Readings.{mode_number};
 ghost use Rattle.saa_word_steps.specs.declared.place.Stage.TheVariants.{ReadLoad};
 
 use crate::call::{Answer, Error, Mode, WordCall};
-use crate::place::{Ask, Back, Given, Next, Place, Reading, Registration, Stage, Taking};
+use crate::place::{
+    AfterWalk, Ask, Next, Place, PollMode, Reading, Registration, ReleaseAmount, Stage,
+};
 use crate::rules::Rules;
 use saa_core_spec::request::Request;
 use saa_core_words::requests;
@@ -29,16 +31,16 @@ impl Place {
             WordCall::Try(count) => self.start_try(count as u16),
             WordCall::Register(count) => self.start_registration(count as u16),
             WordCall::Release(0) => Next::Done(self, Answer::Bool(true)),
-            WordCall::Release(count) => self.start_release(Given::Asked(count as u16)),
+            WordCall::Release(count) => self.start_release(ReleaseAmount::Requested(count as u16)),
             WordCall::TryLock => self.start_try(EXCLUSIVE),
             WordCall::TryShare => self.start_try(SHARED),
             WordCall::RegisterMode(mode) => self.start_registration(number(mode)),
-            WordCall::ReleaseLock => self.start_release(Given::Asked(EXCLUSIVE)),
-            WordCall::ReleaseShare => self.start_release(Given::Asked(SHARED)),
-            WordCall::Downgrade => self.start_release(Given::AllButAShare),
+            WordCall::ReleaseLock => self.start_release(ReleaseAmount::Requested(EXCLUSIVE)),
+            WordCall::ReleaseShare => self.start_release(ReleaseAmount::Requested(SHARED)),
+            WordCall::Downgrade => self.start_release(ReleaseAmount::AllButAShare),
             WordCall::PoisonLock => Next::Going(Place {
                 stage: Stage::PoisonLoad,
-                back: Back::Tells,
+                back: AfterWalk::Tells,
                 ..self
             }),
             WordCall::ClearPoison => self.going(Stage::Clear),
@@ -47,8 +49,8 @@ impl Place {
             WordCall::IsLocked => self.start_read(Reading::IsLocked),
             WordCall::IsShared => self.start_read(Reading::IsShared),
             WordCall::IsPoisoned => self.start_read(Reading::IsPoisoned),
-            WordCall::TryPoll => self.start_poll(Taking::Tries),
-            WordCall::Poll => self.start_poll(Taking::Awaits),
+            WordCall::TryPoll => self.start_poll(PollMode::Tries),
+            WordCall::Poll => self.start_poll(PollMode::Awaits),
             WordCall::Cancel => self.start_cancel(rules),
         }
     }
@@ -66,7 +68,7 @@ impl Place {
     {
         let joins = false;
         let ask = Ask { request, joins };
-        self.going(Stage::AskLoad { ask })
+        self.going(Stage::AcquireLoad { ask })
     }
 
     // It asks, where it is registered as nothing.
@@ -78,27 +80,27 @@ impl Place {
         }
         let joins = true;
         let ask = Ask { request, joins };
-        self.going(Stage::AskLoad { ask })
+        self.going(Stage::AcquireLoad { ask })
     }
 
     // It gives something back.
-    fn start_release(self, given: Given) -> Next
+    fn start_release(self, given: ReleaseAmount) -> Next
         ensures { result ≡ released_as self given }
     {
         Next::Going(Place {
             stage: Stage::ReleaseLoad { given },
-            back: Back::Tells,
+            back: AfterWalk::Tells,
             ..self
         })
     }
 
     // A poll: only a place that joined the line has a word to look at.
-    fn start_poll(self, taking: Taking) -> Next
+    fn start_poll(self, taking: PollMode) -> Next
         ensures { result ≡ polled_as self taking self.registration }
     {
         match self.registration {
             Registration::Idle => Next::Done(self, Answer::Taken(Err(Error::NotRegistered))),
-            Registration::Once(value, _request) => {
+            Registration::AnsweredAtOnce(value, _request) => {
                 let registration = Registration::Idle;
                 let place = Place {
                     registration,
@@ -106,7 +108,7 @@ impl Place {
                 };
                 Next::Done(place, Answer::Taken(Ok(value == 0)))
             }
-            Registration::Slot(_request) => self.going(Stage::Take { taking }),
+            Registration::Queued(_request) => self.going(Stage::Take { taking }),
         }
     }
 
@@ -116,10 +118,10 @@ impl Place {
     {
         match self.registration {
             Registration::Idle => Next::Done(self, Answer::Unit),
-            Registration::Once(value, request) => self.drop_answer(rules, request, value),
-            Registration::Slot(request) => Next::Going(Place {
+            Registration::AnsweredAtOnce(value, request) => self.drop_answer(rules, request, value),
+            Registration::Queued(request) => Next::Going(Place {
                 stage: Stage::FlagLoad,
-                back: Back::Takes(request),
+                back: AfterWalk::Takes(request),
                 ..self
             }),
         }

@@ -6,14 +6,14 @@ use Rattle.saa_word_steps.specs.declared.call.WordCall.{WordCall}
 use Rattle.saa_word_steps.specs.declared.call.WordCall.TheVariants.{TryPoll}
 use Rattle.saa_word_steps.specs.declared.place.Place.{Place}
 use Rattle.saa_word_steps.specs.declared.place.Registration.{Registration}
-use Rattle.saa_word_steps.specs.declared.place.Registration.TheVariants.{Idle, Once, Slot}
+use Rattle.saa_word_steps.specs.declared.place.Registration.TheVariants.{Idle, AnsweredAtOnce, Queued}
 use Rattle.saa_word_steps.specs.declared.place.Stage.TheVariants.{Quiet}
-use Rattle.saa_word_steps.specs.declared.place.Taking.TheVariants.{Tries}
+use Rattle.saa_word_steps.specs.declared.place.PollMode.TheVariants.{Tries}
 use Rattle.saa_word_steps.specs.Needs.{Needs}
 use Rattle.saa_word_steps.specs.AbstractState.{AbstractState}
 use Rattle.saa_word_steps.specs.Steps.{polled_as, started}
 use Rattle.saa_word_steps.specs.Readings.{is_idle, is_taken}
-use Rattle.saa_word_proofs.specs.Refinement.{Refines, joins_line}
+use Rattle.saa_word_proofs.specs.Refinement.{Invariant, joins_line}
 use Rattle.saa_word_proofs.specs.Rows.{updated}
 use Rattle.saa_word_proofs.specs.StepRefinement.{place_after}
 use Rattle.saa_word_proofs.proofs.RefinementLemmas.Lists.{all-same, updated-at, updated-same}
@@ -35,9 +35,9 @@ rest-polled : (needs : Needs) (was rest : Place) (registration : Registration) �
     → (rest ≡ was) ⊎ ((was.stage ≡ Quiet) × (rest ≡ place_after was (started needs was TryPoll)))
 rest-polled needs was rest Idle is quiet rests =
     inl (rests ∙ ap (λ (r : Registration). record was { registration = r }) (ap taken_once is ∙ sym is))
-rest-polled needs was rest (Slot request) is quiet rests =
+rest-polled needs was rest (Queued request) is quiet rests =
     inl (rests ∙ ap (λ (r : Registration). record was { registration = r }) (ap taken_once is ∙ sym is))
-rest-polled needs was rest (Once value request) is quiet rests =
+rest-polled needs was rest (AnsweredAtOnce value request) is quiet rests =
     inr (
       ap (λ (p : Place). p.stage) (sym rests) ∙ quiet,
       rests ∙ ap (λ (r : Registration). record was { registration = r }) (ap taken_once is)
@@ -52,36 +52,36 @@ rest-since needs was rest false is since = inl (since.1 ∙ ap (resting_as was) 
 
 module _ (needs : Needs) (wide : needs.top < 2 ^ count_bits) (places : ℕ) (row : ℕ → ℕ) (state : AbstractState) (me : ℕ) where
   -- a call that starts where the place stands
-  start-at : (standing : ℕ → Place) (was : Place) (call : WordCall) → standing me ≡ was → Refines needs places row standing state
+  start-at : (standing : ℕ → Place) (was : Place) (call : WordCall) → standing me ≡ was → Invariant needs places row standing state
       → was.stage ≡ Quiet → is_taken needs.is_lock call ≡ true → (places ≤ me → joins_line (place_after was (started needs was call)).stage ≡ false)
-      → Refines needs places row (updated standing me (place_after was (started needs was call))) state
+      → Invariant needs places row (updated standing me (place_after was (started needs was call))) state
   start-at standing was call at s quiet taken free =
-      subst (λ (p : Place). Refines needs places row (updated standing me (place_after p (started needs p call))) state) at
+      subst (λ (p : Place). Invariant needs places row (updated standing me (place_after p (started needs p call))) state) at
       (starts-anyone needs wide places row standing state me call
       (subst (λ (p : Place). places ≤ me → joins_line (place_after p (started needs p call)).stage ≡ false) (sym at) free) s
       (ap (λ (p : Place). p.stage) at ∙ quiet) taken)
 
   -- a place that rests
-  rest-refines : (standing : ℕ → Place) (was rest : Place) → standing me ≡ was → RestsAfter was rest → Refines needs places row standing state
-      → Refines needs places row (updated standing me rest) state
+  rest-refines : (standing : ℕ → Place) (was rest : Place) → standing me ≡ was → RestsAfter was rest → Invariant needs places row standing state
+      → Invariant needs places row (updated standing me rest) state
   rest-refines standing was rest at since s =
       elim (rest-since needs was rest (is_idle rest.registration) refl since) [
-        | inl same ↦ subst (λ (f : ℕ → Place). Refines needs places row f state) (sym (updated-same standing me rest (same ∙ sym at))) s
+        | inl same ↦ subst (λ (f : ℕ → Place). Invariant needs places row f state) (sym (updated-same standing me rest (same ∙ sym at))) s
         | inr polled ↦
-            subst (λ (p : Place). Refines needs places row (updated standing me p) state) (sym polled.1)
+            subst (λ (p : Place). Invariant needs places row (updated standing me p) state) (sym polled.1)
             (start-at standing was TryPoll at s polled.0 refl
             (λ out. ap (λ (p : Place). joins_line p.stage) (sym polled.1) ∙ ap joins_line since.0))
       ]
 
   pub begins-refines : (standing : ℕ → Place) (was place : Place) → standing me ≡ was → (places ≤ me → joins_line place.stage ≡ false) → Begins needs was place
-      → Refines needs places row standing state → Refines needs places row (updated standing me place) state
+      → Invariant needs places row standing state → Invariant needs places row (updated standing me place) state
   begins-refines standing was place at free (inl same) s =
-      subst (λ (f : ℕ → Place). Refines needs places row f state) (sym (updated-same standing me place (same ∙ sym at))) s
+      subst (λ (f : ℕ → Place). Invariant needs places row f state) (sym (updated-same standing me place (same ∙ sym at))) s
   begins-refines standing was place at free (inr begun) s =
       let rest : Place = begun.0 in
       let call : WordCall = begun.1 in
       let behind : Place = place_after rest (started needs rest call) in
-      subst (λ (p : Place). Refines needs places row (updated standing me p) state) (sym begun.4)
-      (subst (λ (f : ℕ → Place). Refines needs places row f state) (updated-twice standing me rest behind)
+      subst (λ (p : Place). Invariant needs places row (updated standing me p) state) (sym begun.4)
+      (subst (λ (f : ℕ → Place). Invariant needs places row f state) (updated-twice standing me rest behind)
       (start-at (updated standing me rest) rest call (updated-at standing me rest) (rest-refines standing was rest at begun.2 s) begun.2.0 begun.3
       (subst (λ (p : Place). places ≤ me → joins_line p.stage ≡ false) begun.4 free)))

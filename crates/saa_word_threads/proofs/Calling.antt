@@ -12,13 +12,13 @@ use Rattle.saa_word_steps.specs.declared.place.Next.{Next}
 use Rattle.saa_word_steps.specs.declared.place.Next.TheVariants.{Going, Waits, Done}
 use Rattle.saa_word_steps.specs.declared.place.Place.{Place}
 use Rattle.saa_word_steps.specs.declared.place.Registration.{Registration}
-use Rattle.saa_word_steps.specs.declared.place.Registration.TheVariants.{Idle, Once, Slot}
+use Rattle.saa_word_steps.specs.declared.place.Registration.TheVariants.{Idle, AnsweredAtOnce, Queued}
 use Rattle.saa_word_steps.specs.declared.place.Stage.{Stage}
-use Rattle.saa_word_steps.specs.declared.place.Stage.TheVariants.{Quiet, AskLoad, Take}
-use Rattle.saa_word_steps.specs.declared.place.Taking.{Taking}
-use Rattle.saa_word_steps.specs.declared.place.Taking.TheVariants.{Tries, Awaits}
+use Rattle.saa_word_steps.specs.declared.place.Stage.TheVariants.{Quiet, AcquireLoad, Take}
+use Rattle.saa_word_steps.specs.declared.place.PollMode.{PollMode}
+use Rattle.saa_word_steps.specs.declared.place.PollMode.TheVariants.{Tries, Awaits}
 use Rattle.saa_core_words.specs.Words.{answer_of}
-use Rattle.saa_word_steps.specs.declared.place.Back.{Back}
+use Rattle.saa_word_steps.specs.declared.place.AfterWalk.{AfterWalk}
 use Rattle.saa_word_steps.specs.Needs.{Needs}
 use Rattle.saa_word_steps.specs.Steps.{cancelled_as, going, next_of, polled_as, started, taken_answer}
 use Rattle.saa_word_steps.specs.Readings.{is_idle, is_taken, mode_number}
@@ -39,11 +39,11 @@ use Rattle.saa_word_threads.specs.Told.{Extends, RestsAfter, IsLookOnly, Moves, 
 use Rattle.saa_word_threads.proofs.Growing.{extends-append, extends-none, named-append}
 
 -- a place that is done rests where it stands
-rest-same : (registration : Registration) (stage : Stage) (back : Back)
+rest-same : (registration : Registration) (stage : Stage) (back : AfterWalk)
     → (let place : Place = record { registration = registration; stage = stage; back = back } in place ≡ resting_as place (is_idle registration))
 rest-same Idle stage back = refl
-rest-same (Once value request) stage back = refl
-rest-same (Slot request) stage back = refl
+rest-same (AnsweredAtOnce value request) stage back = refl
+rest-same (Queued request) stage back = refl
 
 pub since-done : (place : Place) → place.stage ≡ Quiet → RestsAfter place place
 since-done place quiet = (quiet, rest-same place.registration place.stage place.back)
@@ -88,7 +88,7 @@ module _ (needs : Needs) (withheld : ℕ) (call : WordCall) (rest : Place) (quie
       subst (λ (s : Option Answer). IsCalledFrom s needs withheld call rest.registration answer place.registration v w) (sym done.0) (refl, done.1, same)
 
 -- a poll of what was answered at once
-pub once-polled : (needs : Needs) (withheld : ℕ) (was : Registration) (value request : ℕ) (v : View) → was ≡ Once value request
+pub once-polled : (needs : Needs) (withheld : ℕ) (was : Registration) (value request : ℕ) (v : View) → was ≡ AnsweredAtOnce value request
     → (answer : Answer) × (value == granted_value ≡ is_granted answer) × IsCalled needs withheld Poll was answer Idle v v
 once-polled needs withheld was value request v is = (
   Taken (Ok (value == granted_value)),
@@ -101,33 +101,33 @@ once-polled needs withheld was value request v is = (
     granted-is false = refl
 
 -- what is left of a place's back where a call is done at once
-back_of : Place → Next → Back
+back_of : Place → Next → AfterWalk
 back_of rest (Going place) = rest.back
 back_of rest Waits = rest.back
 back_of rest (Done place answer) = place.back
 
 registering-back : (rest : Place) (request : ℕ) (registration : Registration)
-    → back_of rest (if is_idle registration then going rest (AskLoad (record { request = request; joins = true })) else Done rest (Says false)) ≡ rest.back
+    → back_of rest (if is_idle registration then going rest (AcquireLoad (record { request = request; joins = true })) else Done rest (Says false)) ≡ rest.back
 unfolding back_of
 registering-back rest request Idle = refl
-registering-back rest request (Once value asked) = refl
-registering-back rest request (Slot asked) = refl
+registering-back rest request (AnsweredAtOnce value asked) = refl
+registering-back rest request (Queued asked) = refl
 
-polling-back : (rest : Place) (taking : Taking) (registration : Registration) → back_of rest (polled_as rest taking registration) ≡ rest.back
+polling-back : (rest : Place) (taking : PollMode) (registration : Registration) → back_of rest (polled_as rest taking registration) ≡ rest.back
 unfolding back_of
 polling-back rest taking Idle = refl
-polling-back rest taking (Once value request) = refl
-polling-back rest taking (Slot request) = refl
+polling-back rest taking (AnsweredAtOnce value request) = refl
+polling-back rest taking (Queued request) = refl
 
 cancelling-back : (needs : Needs) (rest : Place) (registration : Registration) → back_of rest (cancelled_as needs rest registration) ≡ rest.back
 unfolding back_of
 cancelling-back needs rest Idle = refl
-cancelling-back needs rest (Once value request) =
+cancelling-back needs rest (AnsweredAtOnce value request) =
     elim (cases_Bool (is_taken_up needs request value)) [
       | inl up ↦ rw up refl
       | inr free ↦ rw free refl
     ]
-cancelling-back needs rest (Slot request) = refl
+cancelling-back needs rest (Queued request) = refl
 
 started-back : (needs : Needs) (rest : Place) (call : WordCall) → back_of rest (started needs rest call) ≡ rest.back
 unfolding back_of
@@ -169,16 +169,16 @@ started-back needs rest Cancel = cancelling-back needs rest rest.registration
 
 begun-cases : (call : WordCall) (registration : Registration)
     → (registration_after_start call registration ≡ registration)
-    ⊎ ((value : ℕ) × (request : ℕ) × (registration ≡ Once value request) × (registration_after_start call registration ≡ Idle))
+    ⊎ ((value : ℕ) × (request : ℕ) × (registration ≡ AnsweredAtOnce value request) × (registration_after_start call registration ≡ Idle))
 begun-cases TryPoll Idle = inl refl
-begun-cases TryPoll (Once value request) = inr (value, request, refl, refl)
-begun-cases TryPoll (Slot request) = inl refl
+begun-cases TryPoll (AnsweredAtOnce value request) = inr (value, request, refl, refl)
+begun-cases TryPoll (Queued request) = inl refl
 begun-cases Poll Idle = inl refl
-begun-cases Poll (Once value request) = inr (value, request, refl, refl)
-begun-cases Poll (Slot request) = inl refl
+begun-cases Poll (AnsweredAtOnce value request) = inr (value, request, refl, refl)
+begun-cases Poll (Queued request) = inl refl
 begun-cases Cancel Idle = inl refl
-begun-cases Cancel (Once value request) = inr (value, request, refl, refl)
-begun-cases Cancel (Slot request) = inl refl
+begun-cases Cancel (AnsweredAtOnce value request) = inr (value, request, refl, refl)
+begun-cases Cancel (Queued request) = inl refl
 begun-cases call registration = inl refl
 
 -- a place that rests still does where it takes what was given at once
@@ -202,7 +202,7 @@ since-started needs was rest call place answer since is =
     let done =
     started-done (starting_answer needs call rest.registration) (registration_after_start call rest.registration) place answer (so needs call rest since.0 (Done place answer) is) in
     let back : rest.back ≡ place.back = sym (started-back needs rest call) ∙ ap (back_of rest) is in
-    subst (λ (b : Back). RestsAfter was (record place { back = b })) back
+    subst (λ (b : AfterWalk). RestsAfter was (record place { back = b })) back
     (subst (λ (r : Registration). RestsAfter was (record { registration = r; stage = place.stage; back = rest.back })) (sym done.1)
     (subst (λ (s : Stage). RestsAfter was (record { registration = registration_after_start call rest.registration; stage = s; back = rest.back })) (since.0 ∙ sym done.2)
     (since-begun was rest call since)))
@@ -351,8 +351,8 @@ tries-done needs place (Some value) = refl
 
 try-single : (needs : Needs) (me : ℕ) (rest : Place) (registration : Registration) → IsSingleNext needs me (polled_as rest Tries registration)
 try-single needs me rest Idle = tt
-try-single needs me rest (Once value request) = tt
-try-single needs me rest (Slot request) = λ found. tries-done needs (record rest { stage = Take Tries }) (answer_of (found % 65536))
+try-single needs me rest (AnsweredAtOnce value request) = tt
+try-single needs me rest (Queued request) = λ found. tries-done needs (record rest { stage = Take Tries }) (answer_of (found % 65536))
 
 single-next : (needs : Needs) (me : ℕ) (rest : Place) (call : WordCall) → is_single call ≡ true → IsSingleNext needs me (started needs rest call)
 single-next needs me rest Available single = λ found. refl

@@ -3,11 +3,11 @@ use Rattle.std.proofs.Common.{◌≡◌, ℕ, Bool, true, false, not, ◌&&◌, 
 use Rattle.std.proofs.lemmas.Bool.{cases_Bool}
 use Rattle.saa_core_spec.proofs.Counts.{number_same}
 use Rattle.saa_word_steps.specs.declared.event.Event.{Event}
-use Rattle.saa_word_steps.specs.declared.event.Event.TheVariants.{AskedPoisoned, Cleared, Closed, Got, Granted, NotCleared, NotPoisoned, Poisoned, Refused, Showed}
-use Rattle.saa_word_steps.specs.declared.place.Given.{Given}
-use Rattle.saa_word_steps.specs.declared.place.Given.TheVariants.{AllButAShare, Asked}
+use Rattle.saa_word_steps.specs.declared.event.Event.TheVariants.{AskedPoisoned, Cleared, Closed, Acquired, Granted, NotCleared, NotPoisoned, Poisoned, Refused, Showed}
+use Rattle.saa_word_steps.specs.declared.place.ReleaseAmount.{ReleaseAmount}
+use Rattle.saa_word_steps.specs.declared.place.ReleaseAmount.TheVariants.{AllButAShare, Requested}
 use Rattle.saa_word_steps.specs.declared.place.Stage.{Stage}
-use Rattle.saa_word_steps.specs.declared.place.Stage.TheVariants.{AskExchange, AskLoad, Clear, DropTail, Join, PoisonExchange, PoisonLoad, ReadLoad, ReleaseExchange, ReleaseLoad, Take, Unlink}
+use Rattle.saa_word_steps.specs.declared.place.Stage.TheVariants.{AcquireExchange, AcquireLoad, Clear, DropTail, Join, PoisonExchange, PoisonLoad, ReadLoad, ReleaseExchange, ReleaseLoad, Take, Unlink}
 use Rattle.saa_word_steps.specs.Needs.{Needs}
 use Rattle.saa_word_steps.specs.AbstractState.{AbstractState, IsRun, after_event}
 use Rattle.saa_word_proofs.specs.History.{has_part, is_named, is_waiters, named, never_waits, of_place, part_of, seen_by}
@@ -238,23 +238,23 @@ either-never false one other o t = t
 decided-never : (needs : Needs) (request : ℕ) (joins : Bool) (seen : Word) → never_waits (decided_events needs request joins seen) ≡ true
 decided-never needs request joins seen =
     either-never seen.is_poisoned (AskedPoisoned ∷ [])
-    (if waits_behind needs seen request then (if joins then [] else Refused request ∷ []) else (if needs.takes request == 0 then Got request ∷ [] else [])) refl
-    (either-never (waits_behind needs seen request) (if joins then [] else Refused request ∷ []) (if needs.takes request == 0 then Got request ∷ [] else [])
-    (either-never joins [] (Refused request ∷ []) refl refl) (either-never (needs.takes request == 0) (Got request ∷ []) [] refl refl))
+    (if waits_behind needs seen request then (if joins then [] else Refused request ∷ []) else (if needs.takes request == 0 then Acquired request ∷ [] else [])) refl
+    (either-never (waits_behind needs seen request) (if joins then [] else Refused request ∷ []) (if needs.takes request == 0 then Acquired request ∷ [] else [])
+    (either-never joins [] (Refused request ∷ []) refl refl) (either-never (needs.takes request == 0) (Acquired request ∷ []) [] refl refl))
 
-gave-never : (what : Given) → never_waits (gave what ∷ []) ≡ true
-gave-never (Asked request) = refl
+gave-never : (what : ReleaseAmount) → never_waits (gave what ∷ []) ≡ true
+gave-never (Requested request) = refl
 gave-never AllButAShare = refl
 
-gave-not-never : (what : Given) → never_waits (gave_not what ∷ []) ≡ true
-gave-not-never (Asked request) = refl
+gave-not-never : (what : ReleaseAmount) → never_waits (gave_not what ∷ []) ≡ true
+gave-not-never (Requested request) = refl
 gave-not-never AllButAShare = refl
 
-left-never : (what : Given) (left : Option ℕ) → never_waits (left_events what left) ≡ true
+left-never : (what : ReleaseAmount) (left : Option ℕ) → never_waits (left_events what left) ≡ true
 left-never what None = gave-not-never what
 left-never what (Some left) = refl
 
-given-never : (needs : Needs) (what : Given) (seen : Word) → never_waits (given_events needs what seen) ≡ true
+given-never : (needs : Needs) (what : ReleaseAmount) (seen : Word) → never_waits (given_events needs what seen) ≡ true
 given-never needs what seen = either-never seen.is_poisoned _ _ (gave-not-never what) (left-never what _)
 
 poisoning-never : (seen : Word) → never_waits (poisoning_events seen) ≡ true
@@ -263,9 +263,9 @@ poisoning-never seen = either-never (seen.is_poisoned || not (seen.count == lock
 -- the events that answers name of a visitor's step are no waiter's
 pub visitor-names : (needs : Needs) (stage : Stage) (found : ℕ) → IsVisiting stage → never_waits (named_at needs stage found) ≡ true
 visitor-names needs (ReadLoad reading) found visits = refl
-visitor-names needs (AskLoad ask) found visits = decided-never needs ask.request ask.joins (word_of count_bits found)
-visitor-names needs (AskExchange ask seen) found visits =
-    either-never (found == word_number count_bits seen) (Got ask.request ∷ []) (decided_events needs ask.request ask.joins (word_of count_bits found)) refl
+visitor-names needs (AcquireLoad ask) found visits = decided-never needs ask.request ask.joins (word_of count_bits found)
+visitor-names needs (AcquireExchange ask seen) found visits =
+    either-never (found == word_number count_bits seen) (Acquired ask.request ∷ []) (decided_events needs ask.request ask.joins (word_of count_bits found)) refl
     (decided-never needs ask.request ask.joins (word_of count_bits found))
 visitor-names needs (Join request seen) found visits = let joins = visits.0 in absurd (cc)
 visitor-names needs (ReleaseLoad what) found visits = given-never needs what (word_of count_bits found)

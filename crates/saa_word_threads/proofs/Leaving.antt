@@ -10,7 +10,7 @@ use Rattle.saa_word_steps.specs.declared.event.Event.{Event}
 use Rattle.saa_word_steps.specs.declared.place.Place.{Place as Position}
 use Rattle.saa_word_steps.specs.Needs.{needs_of}
 use Rattle.saa_word_proofs.specs.History.{BeginsWith, part_of, seen_by}
-use Rattle.saa_word_proofs.specs.Promises.{IsAtRest}
+use Rattle.saa_word_proofs.specs.Promises.{WordsAreQuiescent}
 use Rattle.saa_word_proofs.specs.Registering.{is_slot}
 use Rattle.saa_word_proofs.proofs.RefinementLemmas.Seen.{begins-seen}
 use Rattle.saa_word_proofs.proofs.SoloLemmas.Quiet.{rest-unregistered}
@@ -225,9 +225,9 @@ module _ (about : About) (s : State (Unit {0}) View) (kept : Kept about s) (seat
 -- nothing is owed where no place is registered in the queue
 settled-all : (about : About) (s : State (Unit {0}) View) (words : List ℕ) (views : List View) (kept : Kept about s) → s.words ≡ words
     → ((number : ℕ) → has_number number views ≡ true → is_slot (kept.standing number).registration ≡ false)
-    → ((number : ℕ) → number < about.places → has_number number views ≡ true) → IsAtRest (needs_of about.rules) (row_of about.places words) kept.last
+    → ((number : ℕ) → number < about.places → has_number number views ≡ true) → WordsAreQuiescent (needs_of about.rules) (row_of about.places words) kept.last
 settled-all about s words views kept is out all =
-    subst (λ (l : List ℕ). IsAtRest (needs_of about.rules) (row_of about.places l) kept.last) is
+    subst (λ (l : List ℕ). WordsAreQuiescent (needs_of about.rules) (row_of about.places l) kept.last) is
     (rest-unregistered (needs_of about.rules) about.places (row_of about.places s.words) kept.standing kept.last kept.refines (λ number.
     elim (cases_Bool (is_slot (kept.standing number).registration)) [
       | inl slot ↦ out number (all number (kept.refines.seats.within number slot))

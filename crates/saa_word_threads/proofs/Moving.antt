@@ -18,7 +18,7 @@ use Rattle.saa_word_steps.specs.Needs.{AreNeeds, Needs, needs_of}
 use Rattle.saa_word_steps.specs.AbstractState.{AbstractState, IsRun, OwesNothing, opening}
 use Rattle.saa_word_steps.specs.Steps.{next_of, operation_of, word_at, written_by}
 use Rattle.saa_word_proofs.specs.History.{BeginsWith, has_part, named, never_waits, of_place, part_of, seen_by}
-use Rattle.saa_word_proofs.specs.Refinement.{IsVisiting, Refines, joins_line}
+use Rattle.saa_word_proofs.specs.Refinement.{IsVisiting, Invariant, joins_line}
 use Rattle.saa_word_proofs.specs.Promises.{idle_place}
 use Rattle.saa_word_proofs.specs.Rows.{updated}
 use Rattle.saa_word_proofs.specs.CallStages.{IsReadyNext}
@@ -73,12 +73,12 @@ pub record Stepped (needs : Needs) (places : ℕ) (row : ℕ → ℕ) (standing 
   pub run : IsRun needs state (of_place me events) last
   pub names : named events ≡ named_at needs place.stage (row (word_at (operation_of needs places me place.stage)))
   pub inside : word_at (operation_of needs places me place.stage) < places + places + 1
-  pub refines : Refines needs places (row_after row (operation_of needs places me place.stage))
+  pub refines : Invariant needs places (row_after row (operation_of needs places me place.stage))
       (updated standing me (place_after place (next_of needs me place place.stage (row (word_at (operation_of needs places me place.stage))))))
       last
 
 module _ (needs : Needs) (lawful : AreNeeds needs) (wide : needs.top < 2 ^ count_bits) (places : ℕ) (few : places < 65536) (me : ℕ) where
-  stepped : (row : ℕ → ℕ) (standing : ℕ → Place) (state : AbstractState) → Refines needs places row standing state
+  stepped : (row : ℕ → ℕ) (standing : ℕ → Place) (state : AbstractState) → Invariant needs places row standing state
       → Stepped needs places row standing state me (standing me)
   stepped row standing state s =
       let made : StepRefines needs places row standing state me (standing me).stage =
@@ -86,18 +86,18 @@ module _ (needs : Needs) (lawful : AreNeeds needs) (wide : needs.top < 2 ^ count
       record { events = made.events; last = made.last; run = made.run; names = made.names; inside = made.inside; refines = made.stands }
 
   pub stepped-at : (row : ℕ → ℕ) (standing : ℕ → Place) (state : AbstractState) (place : Place) → standing me ≡ place
-      → Refines needs places row standing state → Stepped needs places row standing state me place
+      → Invariant needs places row standing state → Stepped needs places row standing state me place
   stepped-at row standing state place at s =
       subst (λ (p : Place). Stepped needs places row standing state me p) at (stepped row standing state s)
 
   pub ready-at : (row : ℕ → ℕ) (standing : ℕ → Place) (state : AbstractState) (place : Place) → standing me ≡ place
-      → Refines needs places row standing state → IsReadyNext needs places me (Going place)
+      → Invariant needs places row standing state → IsReadyNext needs places me (Going place)
   ready-at row standing state place at s =
       subst (λ (p : Place). IsReadyNext needs places me (Going p)) at (s.stages.ranged me, (stepped row standing state s).inside)
 
   -- a visitor is at a stage of a visitor
   pub visiting-at : (row : ℕ → ℕ) (standing : ℕ → Place) (state : AbstractState) (place : Place) → standing me ≡ place
-      → Refines needs places row standing state → places ≤ me → IsVisiting place.stage
+      → Invariant needs places row standing state → places ≤ me → IsVisiting place.stage
   visiting-at row standing state place at s beyond =
       subst (λ (p : Place). IsVisiting p.stage) at (visiting needs places row standing state me s beyond)
 
@@ -193,7 +193,7 @@ module _ (about : About) (few : about.places < 65536) (wide : (needs_of about.ru
     fits : FitsAs kept.history kept.standing about.places kept.dealt seat v Acting
     fits = place-fits kept.history kept.standing about.places kept.dealt seat v acts (kept.each seat v at)
 
-    begun : Refines (needs_of about.rules) about.places (row_of about.places s.words) (updated kept.standing v.number place) kept.last
+    begun : Invariant (needs_of about.rules) about.places (row_of about.places s.words) (updated kept.standing v.number place) kept.last
     begun =
         begins-refines (needs_of about.rules) wide about.places (row_of about.places s.words) kept.last v.number kept.standing v.position place fits.1
         (never-joins about.places v.number place.stage here) begins kept.refines
@@ -221,12 +221,12 @@ module _ (about : About) (few : about.places < 65536) (wide : (needs_of about.ru
     abbrev after : State (Unit {0}) View
     after = record { words = set s.words (cell_of about.places (word_at operation)) (written_by operation found); homes = s.homes; views = set s.views seat view }
 
-    refined : Refines (needs_of about.rules) about.places (row_of about.places after.words) standing made.last
+    refined : Invariant (needs_of about.rules) about.places (row_of about.places after.words) standing made.last
     refined =
-        subst (λ (r : ℕ → ℕ). Refines (needs_of about.rules) about.places r standing made.last)
+        subst (λ (r : ℕ → ℕ). Invariant (needs_of about.rules) about.places r standing made.last)
         (sym (set-updated about.places s.words (word_at operation) (written_by operation found)
         (subst (λ (n : ℕ). cell_of about.places (word_at operation) < n) (sym kept.wide) (cell-inside about.places (word_at operation) made.inside))))
-        (subst (λ (f : ℕ → Place). Refines (needs_of about.rules) about.places (row_after (row_of about.places s.words) operation) f made.last)
+        (subst (λ (f : ℕ → Place). Invariant (needs_of about.rules) about.places (row_after (row_of about.places s.words) operation) f made.last)
         (updated-twice kept.standing v.number place behind) made.refines)
 
     plays : is_unnumbered v.role ≡ false

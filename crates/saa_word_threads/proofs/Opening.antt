@@ -16,8 +16,8 @@ use Rattle.saa_word_steps.specs.declared.place.Place.{Place as Position}
 use Rattle.saa_word_steps.specs.AbstractState.{opening}
 use Rattle.saa_word_steps.specs.Needs.{needs_of}
 use Rattle.saa_word_proofs.specs.History.{BeginsWith, LeadsTo, part_of}
-use Rattle.saa_word_proofs.specs.Promises.{Observes, idle_place, opening_row}
-use Rattle.saa_word_proofs.specs.Refinement.{Refines}
+use Rattle.saa_word_proofs.specs.Promises.{WordsShow, idle_place, opening_row}
+use Rattle.saa_word_proofs.specs.Refinement.{Invariant}
 use Rattle.saa_word_proofs.proofs.RefinementLemmas.Lists.{all-same}
 use Rattle.saa_word_proofs.proofs.RefinementLemmas.Promises.{opens, says-so}
 use Rattle.saa_word_proofs.proofs.RefinementLemmas.Seen.{begins-seen}
@@ -80,8 +80,8 @@ module _ (about : About) (wide : (needs_of about.rules).top < 2 ^ count_bits) (c
         ap (λ (l : List ℕ). length l) is ∙ length-set (replicate (cells_of about.places) 0) 0 about.withheld
         ∙ length-replicate (cells_of about.places) 0;
     refines =
-        subst (λ (l : List ℕ). Refines (needs_of about.rules) about.places (row_of about.places l) (λ place. idle_place) (opening about.withheld)) (sym is)
-        (subst (λ (r : ℕ → ℕ). Refines (needs_of about.rules) about.places r (λ place. idle_place) (opening about.withheld))
+        subst (λ (l : List ℕ). Invariant (needs_of about.rules) about.places (row_of about.places l) (λ place. idle_place) (opening about.withheld)) (sym is)
+        (subst (λ (r : ℕ → ℕ). Invariant (needs_of about.rules) about.places r (λ place. idle_place) (opening about.withheld))
         (all-same (opening_row about.withheld) (row_of about.places (set (replicate (cells_of about.places) 0) 0 about.withheld))
         (opening-words about.withheld about.places))
         (opens (needs_of about.rules) wide about.places about.withheld count));
@@ -339,9 +339,9 @@ new-more table from (first ∷ places) place all one =
 -- The end
 
 pub shows : (about : About) (s : State (Unit {0}) View) (words : List ℕ) (kept : Kept about s) → s.words ≡ words
-    → Observes (needs_of about.rules) about.places (row_of about.places words) kept.last
+    → WordsShow (needs_of about.rules) about.places (row_of about.places words) kept.last
 shows about s words kept is =
-    subst (λ (l : List ℕ). Observes (needs_of about.rules) about.places (row_of about.places l) kept.last) is
+    subst (λ (l : List ℕ). WordsShow (needs_of about.rules) about.places (row_of about.places l) kept.last) is
     (says-so (needs_of about.rules) about.places (row_of about.places s.words) kept.standing kept.last kept.refines)
 
 pub leads-to : (about : About) (s : State (Unit {0}) View) (words : List ℕ) (kept : Kept about s) → s.words ≡ words

@@ -12,7 +12,7 @@ use Rattle.saa_word_steps.specs.Needs.{Needs}
 use Rattle.saa_word_steps.specs.AbstractState.{AbstractState, IsEnabled, IsRun, OwesNothing, after_event, held_by, is_in, opening}
 use Rattle.saa_word_steps.proofs.AbstractRuns.{run-once, waits-parts, waits-some}
 use Rattle.saa_word_proofs.specs.History.{has_part, seen_by}
-use Rattle.saa_word_proofs.specs.Refinement.{IsShowing, Refines}
+use Rattle.saa_word_proofs.specs.Refinement.{IsShowing, Invariant}
 use Rattle.saa_word_threads.specs.Told.{IsLegal, is_showing}
 use Rattle.saa_word_threads.proofs.Growing.{neither, seen-rest}
 
@@ -23,7 +23,7 @@ none-to-show owed answer_value (ShowLoad current value afterwards) never shows =
 none-to-show owed answer_value (ShowStore current next value afterwards) never shows = absurd (cc)
 none-to-show owed answer_value stage never shows = shows
 
-pub owes-nothing : (needs : Needs) (places : ℕ) (row : ℕ → ℕ) (standing : ℕ → Place) (state : AbstractState) → (s : Refines needs places row standing state)
+pub owes-nothing : (needs : Needs) (places : ℕ) (row : ℕ → ℕ) (standing : ℕ → Place) (state : AbstractState) → (s : Invariant needs places row standing state)
     → (me : ℕ) → is_showing (standing me).stage ≡ false → OwesNothing me state
 owes-nothing needs places row standing state s me never other due mine =
     let none : s.owed me ≡ [] = none-to-show (s.owed me) (s.answer_value me) (standing me).stage never (s.stages.showing me) in

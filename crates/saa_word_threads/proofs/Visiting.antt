@@ -8,20 +8,20 @@ use Rattle.saa_word_steps.specs.declared.call.Answer.TheVariants.{Bool as Says}
 use Rattle.saa_word_steps.specs.declared.call.WordCall.{WordCall}
 use Rattle.saa_word_steps.specs.declared.call.WordCall.TheVariants.{Try, Release}
 use Rattle.saa_word_steps.specs.declared.operation.Operation.{Operation}
-use Rattle.saa_word_steps.specs.declared.place.Afterwards.{Afterwards}
-use Rattle.saa_word_steps.specs.declared.place.Afterwards.TheVariants.{Ends, Again}
+use Rattle.saa_word_steps.specs.declared.place.AfterShow.{AfterShow}
+use Rattle.saa_word_steps.specs.declared.place.AfterShow.TheVariants.{Ends, Again}
 use Rattle.saa_word_steps.specs.declared.place.Ask.{Ask}
-use Rattle.saa_word_steps.specs.declared.place.Back.{Back}
-use Rattle.saa_word_steps.specs.declared.place.Back.TheVariants.{Tells, Ends as EndsCall, Takes}
-use Rattle.saa_word_steps.specs.declared.place.Given.{Given}
-use Rattle.saa_word_steps.specs.declared.place.Given.TheVariants.{Asked}
+use Rattle.saa_word_steps.specs.declared.place.AfterWalk.{AfterWalk}
+use Rattle.saa_word_steps.specs.declared.place.AfterWalk.TheVariants.{Tells, Ends as EndsCall, Takes}
+use Rattle.saa_word_steps.specs.declared.place.ReleaseAmount.{ReleaseAmount}
+use Rattle.saa_word_steps.specs.declared.place.ReleaseAmount.TheVariants.{Requested}
 use Rattle.saa_word_steps.specs.declared.place.Next.{Next}
 use Rattle.saa_word_steps.specs.declared.place.Next.TheVariants.{Going, Waits, Done}
 use Rattle.saa_word_steps.specs.declared.place.Place.{Place}
 use Rattle.saa_word_steps.specs.declared.place.Registration.{Registration}
 use Rattle.saa_word_steps.specs.declared.place.Registration.TheVariants.{Idle}
 use Rattle.saa_word_steps.specs.declared.place.Stage.{Stage}
-use Rattle.saa_word_steps.specs.declared.place.Stage.TheVariants.{Quiet, ReadLoad, AskLoad, AskExchange, Prepare, Join, ReleaseLoad, ReleaseExchange, BackLoad, BackStore, Forward, CutToClose, CutToGoRound, Close, Empty, GoRound, ShowLoad, ShowStore, Take, LookLoad, PoisonLoad, PoisonExchange, Clear}
+use Rattle.saa_word_steps.specs.declared.place.Stage.TheVariants.{Quiet, ReadLoad, AcquireLoad, AcquireExchange, Prepare, Join, ReleaseLoad, ReleaseExchange, BackLoad, BackStore, Forward, CutToClose, CutForRetry, Close, Empty, Retry, ShowLoad, ShowStore, Take, LookLoad, PoisonLoad, PoisonExchange, Clear}
 use Rattle.saa_word_steps.specs.Needs.{Needs, fits_count}
 use Rattle.saa_word_steps.specs.Readings.{is_taken, tried_answer}
 use Rattle.saa_word_steps.specs.Steps.{closing, decided, finished, gave_nothing, given, given_to, granted, left_from, looked_at, next_of, operation_of, poisoning, released, shown_all, started, word_at}
@@ -68,7 +68,7 @@ keeps-never : (place : Place) (test : Bool) (one other : Next) → test ≡ fals
 keeps-never place true one other never t = absurd (cc)
 keeps-never place false one other never t = t
 
-keeps-finished : (place : Place) (back : Back) → Keeps place (finished place back)
+keeps-finished : (place : Place) (back : AfterWalk) → Keeps place (finished place back)
 keeps-finished place Tells = refl
 keeps-finished place EndsCall = refl
 keeps-finished place (Takes request) = refl
@@ -84,20 +84,20 @@ keeps-decided needs place ask seen tries =
     (keeps-never place ask.joins _ _ tries refl)
     (keeps-either place (needs.takes ask.request == 0) _ _ (keeps-granted needs place ask tries) refl))
 
-keeps-nothing : (place : Place) (back : Back) → Keeps place (gave_nothing place back)
+keeps-nothing : (place : Place) (back : AfterWalk) → Keeps place (gave_nothing place back)
 keeps-nothing place Tells = refl
 keeps-nothing place EndsCall = refl
 keeps-nothing place (Takes request) = refl
 
-keeps-left : (place : Place) (what : Given) (seen : Word) (left : Option ℕ) → Keeps place (given_to place what seen left)
+keeps-left : (place : Place) (what : ReleaseAmount) (seen : Word) (left : Option ℕ) → Keeps place (given_to place what seen left)
 keeps-left place what seen None = keeps-nothing place place.back
 keeps-left place what seen (Some left) = refl
 
-keeps-given : (needs : Needs) (place : Place) (what : Given) (seen : Word) → Keeps place (given needs place what seen)
+keeps-given : (needs : Needs) (place : Place) (what : ReleaseAmount) (seen : Word) → Keeps place (given needs place what seen)
 keeps-given needs place what seen =
     keeps-either place seen.is_poisoned _ _ (keeps-nothing place place.back) (keeps-left place what seen (left_from needs seen.count what))
 
-keeps-shown : (place : Place) (afterwards : Afterwards) → Keeps place (shown_all place afterwards)
+keeps-shown : (place : Place) (afterwards : AfterShow) → Keeps place (shown_all place afterwards)
 keeps-shown place Ends = keeps-finished place place.back
 keeps-shown place (Again seen) = refl
 
@@ -121,8 +121,8 @@ keeps-poisoning place seen =
 keeps-next : (needs : Needs) (me : ℕ) (place : Place) (stage : Stage) (found : ℕ) → IsVisiting stage → Keeps place (next_of needs me place stage found)
 keeps-next needs me place Quiet found visits = refl
 keeps-next needs me place (ReadLoad reading) found visits = refl
-keeps-next needs me place (AskLoad ask) found visits = keeps-decided needs place ask (word_of count_bits found) visits.0
-keeps-next needs me place (AskExchange ask seen) found visits =
+keeps-next needs me place (AcquireLoad ask) found visits = keeps-decided needs place ask (word_of count_bits found) visits.0
+keeps-next needs me place (AcquireExchange ask seen) found visits =
     keeps-either place (found == word_number count_bits seen) _ _ (keeps-granted needs place ask visits.0)
     (keeps-decided needs place ask (word_of count_bits found) visits.0)
 keeps-next needs me place (ReleaseLoad what) found visits = keeps-given needs place what (word_of count_bits found)
@@ -134,11 +134,11 @@ keeps-next needs me place (BackLoad seen current newer) found visits = refl
 keeps-next needs me place (BackStore seen current newer line) found visits = keeps-either place (line.older == 0) _ _ refl refl
 keeps-next needs me place (Forward seen current count) found visits = keeps-looked needs place seen current count (line_word_of found)
 keeps-next needs me place (CutToClose seen current count line) found visits = refl
-keeps-next needs me place (CutToGoRound seen current count line) found visits = refl
+keeps-next needs me place (CutForRetry seen current count line) found visits = refl
 keeps-next needs me place (Close seen count top) found visits = keeps-closing place seen count top found
 keeps-next needs me place (Empty seen current count line) found visits =
     keeps-either place (found == word_number count_bits seen) _ _ refl (keeps-either place (line.older == 0) _ _ refl refl)
-keeps-next needs me place (GoRound seen count top) found visits = keeps-either place (top == 0) _ _ refl refl
+keeps-next needs me place (Retry seen count top) found visits = keeps-either place (top == 0) _ _ refl refl
 keeps-next needs me place (ShowLoad current value afterwards) found visits = refl
 keeps-next needs me place (ShowStore current next value afterwards) found visits = keeps-either place (next == 0) _ _ (keeps-shown place afterwards) refl
 keeps-next needs me place PoisonLoad found visits = keeps-poisoning place (word_of count_bits found)
@@ -229,53 +229,53 @@ number-beyond places words other number wide same beyond = omega (arith, wide, s
 -- a word that grants a try sends it on to its exchange, and a release that is given back too
 pub visit-asks : (needs : Needs) (withheld places : ℕ) (call : WordCall) (began v : View) (request found : ℕ) (seen : Word) → seen ≡ word_of count_bits found
     → grants_at needs seen (record { request = request; joins = false }) ≡ true
-    → VisitNext needs withheld places call began (record idle_place { stage = AskLoad (record { request = request; joins = false }) }) v
-    (next_of needs 0 (record idle_place { stage = AskLoad (record { request = request; joins = false }) }) (AskLoad (record { request = request; joins = false })) found)
-    → InVisit needs places call began (record idle_place { stage = AskExchange (record { request = request; joins = false }) seen }) v
+    → VisitNext needs withheld places call began (record idle_place { stage = AcquireLoad (record { request = request; joins = false }) }) v
+    (next_of needs 0 (record idle_place { stage = AcquireLoad (record { request = request; joins = false }) }) (AcquireLoad (record { request = request; joins = false })) found)
+    → InVisit needs places call began (record idle_place { stage = AcquireExchange (record { request = request; joins = false }) seen }) v
 visit-asks needs withheld places call began v request found seen sees grants next =
-    subst (VisitNext needs withheld places call began (record idle_place { stage = AskLoad (record { request = request; joins = false }) }) v)
+    subst (VisitNext needs withheld places call began (record idle_place { stage = AcquireLoad (record { request = request; joins = false }) }) v)
     (ask-goes needs 0 idle_place (record { request = request; joins = false }) found seen sees grants) next
 
 pub visit-gives : (needs : Needs) (withheld places : ℕ) (call : WordCall) (began v : View) (request left found : ℕ) (seen : Word) → seen ≡ word_of count_bits found
     → lowers_to needs seen request ≡ Some left
-    → VisitNext needs withheld places call began (record idle_place { stage = ReleaseLoad (Asked request) }) v
-    (next_of needs 0 (record idle_place { stage = ReleaseLoad (Asked request) }) (ReleaseLoad (Asked request)) found)
-    → InVisit needs places call began (record idle_place { stage = ReleaseExchange (Asked request) seen }) v
+    → VisitNext needs withheld places call began (record idle_place { stage = ReleaseLoad (Requested request) }) v
+    (next_of needs 0 (record idle_place { stage = ReleaseLoad (Requested request) }) (ReleaseLoad (Requested request)) found)
+    → InVisit needs places call began (record idle_place { stage = ReleaseExchange (Requested request) seen }) v
 visit-gives needs withheld places call began v request left found seen sees lowers next =
-    subst (VisitNext needs withheld places call began (record idle_place { stage = ReleaseLoad (Asked request) }) v)
+    subst (VisitNext needs withheld places call began (record idle_place { stage = ReleaseLoad (Requested request) }) v)
     (give-goes needs 0 idle_place request left found seen sees lowers) next
 
 -- the exchange is made
 pub visit-tried : (needs : Needs) (withheld places : ℕ) (call : WordCall) (began v : View) (request found : ℕ) (seen : Word) → found ≡ word_number count_bits seen
-    → VisitNext needs withheld places call began (record idle_place { stage = AskExchange (record { request = request; joins = false }) seen }) v
-    (next_of needs 0 (record idle_place { stage = AskExchange (record { request = request; joins = false }) seen }) (AskExchange (record { request = request; joins = false }) seen) found)
+    → VisitNext needs withheld places call began (record idle_place { stage = AcquireExchange (record { request = request; joins = false }) seen }) v
+    (next_of needs 0 (record idle_place { stage = AcquireExchange (record { request = request; joins = false }) seen }) (AcquireExchange (record { request = request; joins = false }) seen) found)
     → HasEvents needs withheld call Idle (tried_answer needs true) Idle began v × (v.position ≡ idle_place)
 visit-tried needs withheld places call began v request found seen hit next =
     let test : found == word_number count_bits seen ≡ true = same-number found (word_number count_bits seen) hit in rw test at next
 
 module _ (needs : Needs) (withheld places : ℕ) (call : WordCall) (began v : View) (request found : ℕ) (seen : Word) (hit : found ≡ word_number count_bits seen)
-    (next : VisitNext needs withheld places call began (record idle_place { stage = ReleaseExchange (Asked request) seen }) v
-    (next_of needs 0 (record idle_place { stage = ReleaseExchange (Asked request) seen }) (ReleaseExchange (Asked request) seen) found)) where
+    (next : VisitNext needs withheld places call began (record idle_place { stage = ReleaseExchange (Requested request) seen }) v
+    (next_of needs 0 (record idle_place { stage = ReleaseExchange (Requested request) seen }) (ReleaseExchange (Requested request) seen) found)) where
   pub visit-gave : takes_flag seen ≡ false → HasEvents needs withheld call Idle (Says true) Idle began v × (v.position ≡ idle_place)
   visit-gave rests = let test : found == word_number count_bits seen ≡ true = same-number found (word_number count_bits seen) hit in rw (test, rests) at next
 
   -- it holds the flag, and goes on to walk the queue
-  pub visit-settles : takes_flag seen ≡ true → (first : Word) → first ≡ released needs seen (Asked request)
+  pub visit-settles : takes_flag seen ≡ true → (first : Word) → first ≡ released needs seen (Requested request)
       → InVisit needs places call began (record idle_place { stage = BackLoad first first.tail 0 }) v
   visit-settles holds first same =
       let test : found == word_number count_bits seen ≡ true = same-number found (word_number count_bits seen) hit in rw same (rw (test, holds) at next)
 
 -- the same by other names
 module _ (needs : Needs) (withheld places : ℕ) (call picked : WordCall) (began picked_began v : View) (place : Place) (request found : ℕ) (seen : Word)
-    (is_call : picked ≡ call) (is_began : picked_began ≡ began) (is : place ≡ record idle_place { stage = ReleaseExchange (Asked request) seen })
+    (is_call : picked ≡ call) (is_began : picked_began ≡ began) (is : place ≡ record idle_place { stage = ReleaseExchange (Requested request) seen })
     (hit : found ≡ word_number count_bits seen) (next : VisitNext needs withheld places picked picked_began place v (next_of needs 0 place place.stage found)) where
-  so-next : VisitNext needs withheld places call began (record idle_place { stage = ReleaseExchange (Asked request) seen }) v
-      (next_of needs 0 (record idle_place { stage = ReleaseExchange (Asked request) seen }) (ReleaseExchange (Asked request) seen) found)
+  so-next : VisitNext needs withheld places call began (record idle_place { stage = ReleaseExchange (Requested request) seen }) v
+      (next_of needs 0 (record idle_place { stage = ReleaseExchange (Requested request) seen }) (ReleaseExchange (Requested request) seen) found)
   so-next =
-      subst (λ (w : WordCall). VisitNext needs withheld places w began (record idle_place { stage = ReleaseExchange (Asked request) seen }) v
-      (next_of needs 0 (record idle_place { stage = ReleaseExchange (Asked request) seen }) (ReleaseExchange (Asked request) seen) found)) is_call
-      (subst (λ (u : View). VisitNext needs withheld places picked u (record idle_place { stage = ReleaseExchange (Asked request) seen }) v
-      (next_of needs 0 (record idle_place { stage = ReleaseExchange (Asked request) seen }) (ReleaseExchange (Asked request) seen) found)) is_began
+      subst (λ (w : WordCall). VisitNext needs withheld places w began (record idle_place { stage = ReleaseExchange (Requested request) seen }) v
+      (next_of needs 0 (record idle_place { stage = ReleaseExchange (Requested request) seen }) (ReleaseExchange (Requested request) seen) found)) is_call
+      (subst (λ (u : View). VisitNext needs withheld places picked u (record idle_place { stage = ReleaseExchange (Requested request) seen }) v
+      (next_of needs 0 (record idle_place { stage = ReleaseExchange (Requested request) seen }) (ReleaseExchange (Requested request) seen) found)) is_began
       (subst (λ (p : Place). VisitNext needs withheld places picked picked_began p v (next_of needs 0 p p.stage found)) is next))
 
   pub visit-gave-so : takes_flag seen ≡ false → HasEvents needs withheld call Idle (Says true) Idle began v × (v.position ≡ idle_place)

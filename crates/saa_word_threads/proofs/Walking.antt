@@ -2,8 +2,8 @@
 use Rattle.std.proofs.Common.{◌≡◌, ℕ, ◌+◌, ◌<◌, true, refl, sym, ap, subst, ◌∙◌, inl, inr}
 use Rattle.saa_word_steps.specs.declared.call.Answer.TheVariants.{Bool as Says}
 use Rattle.saa_word_steps.specs.declared.operation.Operation.{Operation}
-use Rattle.saa_word_steps.specs.declared.place.Back.{Back}
-use Rattle.saa_word_steps.specs.declared.place.Back.TheVariants.{Tells, Ends, Takes}
+use Rattle.saa_word_steps.specs.declared.place.AfterWalk.{AfterWalk}
+use Rattle.saa_word_steps.specs.declared.place.AfterWalk.TheVariants.{Tells, Ends, Takes}
 use Rattle.saa_word_steps.specs.declared.place.Next.{Next}
 use Rattle.saa_word_steps.specs.declared.place.Next.TheVariants.{Going, Waits, Done}
 use Rattle.saa_word_steps.specs.declared.place.Place.{Place as Position}
@@ -81,7 +81,7 @@ module _ (form : Form) (pending : Pending) (place : Position) (old : Seat) (m : 
     numbered in_call = in_call.extends.number ∙ sym m.1.extends.number ∙ m.0.2
 
     -- it is done with the queue
-    finishes : (back : Back) → GoesOnUnderway form (begun_at pending) (finished place back) new → GoesOn form pending place (finished place back) new
+    finishes : (back : AfterWalk) → GoesOnUnderway form (begun_at pending) (finished place back) new → GoesOn form pending place (finished place back) new
     finishes Tells goes =
         let number : new.me.0.number ≡ pending.me = goes.2.0.extends.number ∙ sym m.1.extends.number ∙ m.0.2 in
         ((goes.0, goes.1, number, m.0.3), (goes.2.0, goes.2.1))
@@ -114,7 +114,7 @@ module _ (form : Form) (visit : Visit) (place : Position) (old : Seat) (at : IsV
       let idle : place.registration ≡ Idle = ap (λ (p : Position). p.registration) m.rested in
       let tells : place.back ≡ Tells = ap (λ (p : Position). p.back) m.rested in
       let quiet : record place { stage = Quiet } ≡ idle_place = ap (λ (p : Position). record p { stage = Quiet }) m.rested in
-      subst (λ (b : Back). GoesOnUnderway form (begun_by visit) (finished place b) new → VisitGoesOn form visit place (finished place b) new) (sym tells)
+      subst (λ (b : AfterWalk). GoesOnUnderway form (begun_by visit) (finished place b) new → VisitGoesOn form visit place (finished place b) new) (sym tells)
       (λ told. (
         subst (λ (r : Registration). HasEvents (needs form) (withheld form) visit.call.value Idle (Says true) r visit.seat.value.me.0 new.me.0) idle told.2.0,
         told.2.2 ∙ quiet,

@@ -5,7 +5,7 @@ use Rattle.atomic_table.specs.Seated.{TableId}
 use Rattle.saa_word_steps.specs.declared.event.Event.{Event}
 use Rattle.saa_word_steps.specs.Needs.{needs_of}
 use Rattle.saa_word_proofs.specs.History.{BeginsWith, LeadsTo, never_waits, part_of, seen_by}
-use Rattle.saa_word_proofs.specs.Promises.{IsAtRest, idle_place}
+use Rattle.saa_word_proofs.specs.Promises.{WordsAreQuiescent, idle_place}
 use Rattle.saa_word_threads.specs.declared.table.About.{About}
 use Rattle.saa_word_threads.specs.declared.table.View.{View}
 use Rattle.saa_word_threads.specs.declared.place.Place.{Place}
@@ -49,7 +49,7 @@ pub record AreLedTo (about : About) (words : List ℕ) (views : List View) : Typ
   pub leads : LeadsTo (needs_of about.rules) about.places about.withheld history (row_of about.places words)
   pub each : All (IsOf history) views
   pub others : (number : ℕ) → about.places ≤ number → never_waits (part_of number history) ≡ true
-  pub settled : ((number : ℕ) → number < about.places → has_number number views ≡ true) → IsAtRest (needs_of about.rules) (row_of about.places words) leads.last
+  pub settled : ((number : ℕ) → number < about.places → has_number number views ≡ true) → WordsAreQuiescent (needs_of about.rules) (row_of about.places words) leads.last
 
 -- the numbers of the words at the end
 abbrev pub numbers : Words → List ℕ

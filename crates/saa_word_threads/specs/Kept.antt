@@ -9,7 +9,7 @@ use Rattle.saa_word_steps.specs.AbstractState.{AbstractState, IsRun, opening}
 use Rattle.saa_word_steps.specs.Needs.{needs_of}
 use Rattle.saa_word_proofs.specs.History.{BeginsWith, has_part, never_waits, part_of, seen_by}
 use Rattle.saa_word_proofs.specs.Promises.{idle_place}
-use Rattle.saa_word_proofs.specs.Refinement.{Refines}
+use Rattle.saa_word_proofs.specs.Refinement.{Invariant}
 use Rattle.saa_word_proofs.specs.Registering.{is_slot}
 use Rattle.saa_word_threads.specs.declared.table.Departed.{Departed}
 use Rattle.saa_word_threads.specs.declared.table.Role.{Role}
@@ -96,7 +96,7 @@ pub record Kept (about : About) (s : State (Unit {0}) View) : Type 0 where
   pub run : IsRun (needs_of about.rules) (opening about.withheld) history last
   pub wide : length s.words ≡ cells_of about.places
   pub few : dealt ≤ about.places
-  pub refines : Refines (needs_of about.rules) about.places (row_of about.places s.words) standing last
+  pub refines : Invariant (needs_of about.rules) about.places (row_of about.places s.words) standing last
   pub each : (seat : ℕ) (v : View) → get_elem? s.views seat ≡ some v → Fits history standing about.places dealt seat v
   pub gathers : (seat : ℕ) (v : View) → get_elem? s.views seat ≡ some v → is_unnumbered v.role ≡ false → AreGathered s.views v.gathered
   pub apart : (one other : ℕ) (v w : View) → get_elem? s.views one ≡ some v → get_elem? s.views other ≡ some w → is_unnumbered v.role ≡ false

@@ -15,7 +15,7 @@ use Rattle.saa_word_threads.specs.declared.table.About.{About}
 use Rattle.saa_word_threads.specs.declared.table.View.{View}
 use Rattle.saa_word_threads.specs.declared.visitor.Visitor.{Visitor}
 use Rattle.saa_word_threads.specs.Dealt.{AreNew as FormAreNew}
-use Rattle.saa_word_threads.specs.Public.{HasLeft as FormHasLeft, IsMade as FormIsMade, IsWaited as FormIsWaited, spin_policy_of as form_spin_policy_of, view_left as form_view_left}
+use Rattle.saa_word_threads.specs.Public.{HasLeft as FormHasLeft, IsMade as FormIsMade, AcquiresAndPolls as FormIsWaited, spin_policy_of as form_spin_policy_of, view_left as form_view_left}
 use Rattle.saa_word_threads.specs.Visits.{IsVisited as FormIsVisited, IsVisitedOnce as FormIsVisitedOnce}
 
 -- its rules, that nothing is held as it is made, and how many places it has
@@ -55,8 +55,8 @@ abbrev pub IsMade : WordCall → Place → Answer → Place → Type 0
 IsMade call old answer new = FormIsMade lock_needs 0 call old.inner answer new.inner
 
 -- A wait is a registration in a mode, and then a poll where the registration was made
-abbrev pub IsWaited : Mode → Place → Bool → Place → Type 0
-IsWaited mode old result new = FormIsWaited lock_needs 0 (RegisterMode mode) old.inner result new.inner
+abbrev pub AcquiresAndPolls : Mode → Place → Bool → Place → Type 0
+AcquiresAndPolls mode old result new = FormIsWaited lock_needs 0 (RegisterMode mode) old.inner result new.inner
 
 -- A place has left: it has cancelled first
 abbrev pub HasLeft : Place → Left → Type 0

@@ -65,8 +65,8 @@ abbrev pub IsWaitedFrom : Bool → Needs → ℕ → Registration → Registrati
 IsWaitedFrom false needs withheld was now v w result = (now ≡ was) × (w ≡ v) × (result ≡ false)
 IsWaitedFrom true needs withheld was now v w result = (answer : Answer) × IsCalled needs withheld Poll was answer now v w × (result ≡ is_granted answer)
 
-abbrev pub IsWaited : Needs → ℕ → WordCall → Place → Bool → Place → Type 0
-IsWaited needs withheld registers old result new =
+abbrev pub AcquiresAndPolls : Needs → ℕ → WordCall → Place → Bool → Place → Type 0
+AcquiresAndPolls needs withheld registers old result new =
     IsSamePlace old new
     × ((answer : Answer) × (between : Registration) × (v : View)
     × IsCalled needs withheld registers (registered old) answer between (view_of old) v

@@ -10,7 +10,7 @@ use Rattle.saa_word_threads.specs.declared.place.Left.{Left}
 use Rattle.saa_word_threads.specs.declared.semaphore.SemaphoreOf.{SemaphoreOf}
 use Rattle.saa_word_threads.specs.declared.table.About.{About}
 use Rattle.saa_word_threads.specs.declared.visitor.Visitor.{Visitor}
-use Rattle.saa_word_threads.specs.Public.{HasLeft as FormHasLeft, IsMade as FormIsMade, IsWaited as FormIsWaited}
+use Rattle.saa_word_threads.specs.Public.{HasLeft as FormHasLeft, IsMade as FormIsMade, AcquiresAndPolls as FormIsWaited}
 use Rattle.saa_word_threads.specs.Visits.{IsVisited as FormIsVisited, IsVisitedOnce as FormIsVisitedOnce}
 
 -- its rules, how much was withheld, and how many places it has
@@ -41,8 +41,8 @@ abbrev pub IsMade : {max : ℕ} → SemaphoreOf max → WordCall → Place → A
 IsMade {max} semaphore call old answer new = FormIsMade (permit_needs max) (about_of semaphore).withheld call old answer new
 
 -- A wait is a registration for so many permits, and then a poll where the registration was made
-abbrev pub IsWaited : {max : ℕ} → SemaphoreOf max → ℕ → Place → Bool → Place → Type 0
-IsWaited {max} semaphore count old result new = FormIsWaited (permit_needs max) (about_of semaphore).withheld (Register count) old result new
+abbrev pub AcquiresAndPolls : {max : ℕ} → SemaphoreOf max → ℕ → Place → Bool → Place → Type 0
+AcquiresAndPolls {max} semaphore count old result new = FormIsWaited (permit_needs max) (about_of semaphore).withheld (Register count) old result new
 
 -- A place has left: it has cancelled first
 abbrev pub HasLeft : {max : ℕ} → SemaphoreOf max → Place → Left → Type 0

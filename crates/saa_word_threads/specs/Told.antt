@@ -7,7 +7,7 @@ use Rattle.saa_word_steps.specs.declared.place.Next.{Next}
 use Rattle.saa_word_steps.specs.declared.place.Next.TheVariants.{Going}
 use Rattle.saa_word_steps.specs.declared.place.Place.{Place}
 use Rattle.saa_word_steps.specs.declared.place.Registration.{Registration}
-use Rattle.saa_word_steps.specs.declared.place.Registration.TheVariants.{Idle, Once}
+use Rattle.saa_word_steps.specs.declared.place.Registration.TheVariants.{Idle, AnsweredAtOnce}
 use Rattle.saa_word_steps.specs.declared.place.Stage.{Stage}
 use Rattle.saa_word_steps.specs.declared.place.Stage.TheVariants.{Quiet, Prepare, ShowLoad, ShowStore}
 use Rattle.saa_word_steps.specs.Needs.{Needs, needs_of}
@@ -96,7 +96,7 @@ look_only about place me st before found after =
 
 -- an answer that was given at once is taken
 abbrev pub taken_once : Registration → Registration
-taken_once (Once value request) = Idle
+taken_once (AnsweredAtOnce value request) = Idle
 taken_once registration = registration
 
 -- a place as it was behind its last step, but for an answer that was given at once, which it has taken where it is idle now

@@ -3,8 +3,8 @@ use Rattle.std.specs.Prelude.{◌≡◌, ℕ, ◌==◌, if◌then◌else◌, Opt
 use Rattle.saa_core_spec.specs.Values.{granted_value}
 use Rattle.saa_core_words.specs.declared.line_word.LineWord.{LineWord}
 use Rattle.saa_core_words.specs.declared.word.Word.{Word}
-use Rattle.saa_word_steps.specs.declared.place.Afterwards.{Afterwards}
-use Rattle.saa_word_steps.specs.declared.place.Afterwards.TheVariants.{Ends, Again}
+use Rattle.saa_word_steps.specs.declared.place.AfterShow.{AfterShow}
+use Rattle.saa_word_steps.specs.declared.place.AfterShow.TheVariants.{Ends, Again}
 use Rattle.saa_word_steps.specs.declared.place.Next.{Next}
 use Rattle.saa_word_steps.specs.declared.place.Next.TheVariants.{Going, Waits, Done}
 use Rattle.saa_word_steps.specs.declared.place.Place.{Place as Position}
@@ -53,7 +53,7 @@ abbrev pub staying : Word → ℕ → ℕ → LineWord → Stage
 staying seen current count line = if line.older == 0 then Close seen count 0 else CutToClose seen current count line
 
 -- what comes behind the answers that are shown: nothing, or a walk from this word
-abbrev pub afterwards_of : Option Word → Afterwards
+abbrev pub afterwards_of : Option Word → AfterShow
 afterwards_of None = Ends
 afterwards_of (Some now) = Again now
 

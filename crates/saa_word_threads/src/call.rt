@@ -13,7 +13,7 @@ use crate::walk::{Course, Walk};
 use crate::watch::{Moment, Unwatched, Watch};
 use atomic_table::Seat;
 use saa_word_steps::call::{Answer, WordCall};
-use saa_word_steps::place::{Back, Next, Place as Position, Registration, Stage, Taking};
+use saa_word_steps::place::{AfterWalk, Next, Place as Position, PollMode, Registration, Stage};
 use std::marker::Brand;
 use std::snapshot::Snapshot;
 use std::sync::Wait;
@@ -182,7 +182,7 @@ impl Form {
 pub(crate) fn publishes(stage: Stage) -> bool {
     matches!(
         stage,
-        Stage::Close { .. } | Stage::Empty { .. } | Stage::GoRound { .. }
+        Stage::Close { .. } | Stage::Empty { .. } | Stage::Retry { .. }
     )
 }
 
@@ -195,10 +195,10 @@ pub(crate) fn finish(place: Position) -> Next
         ..place
     };
     match place.back {
-        Back::Tells => Next::Done(quiet, Answer::Bool(true)),
-        Back::Ends => Next::Done(quiet, Answer::Unit),
-        Back::Takes(request) => {
-            let taking = Taking::Gives(request);
+        AfterWalk::Tells => Next::Done(quiet, Answer::Bool(true)),
+        AfterWalk::Ends => Next::Done(quiet, Answer::Unit),
+        AfterWalk::Takes(request) => {
+            let taking = PollMode::Gives(request);
             Next::Going(Position {
                 stage: Stage::Take { taking },
                 ..place

@@ -4,9 +4,9 @@
 
 ghost use Rattle.std.specs.Prelude.{◌≡◌};
 ghost use Rattle.saa_core_words.specs.Words.{count_bits, word_of};
-ghost use Rattle.saa_word_steps.specs.declared.place.Back.TheVariants.{Tells};
-ghost use Rattle.saa_word_steps.specs.declared.place.Given.TheVariants.{Asked};
-ghost use Rattle.saa_word_steps.specs.declared.place.Stage.TheVariants.{AskLoad, AskExchange, BackLoad, ReleaseLoad, ReleaseExchange};
+ghost use Rattle.saa_word_steps.specs.declared.place.AfterWalk.TheVariants.{Tells};
+ghost use Rattle.saa_word_steps.specs.declared.place.ReleaseAmount.TheVariants.{Requested};
+ghost use Rattle.saa_word_steps.specs.declared.place.Stage.TheVariants.{AcquireLoad, AcquireExchange, BackLoad, ReleaseLoad, ReleaseExchange};
 ghost use Rattle.saa_word_steps.specs.Steps.{IsRanged};
 ghost use Rattle.saa_word_threads.specs.Pending.{HasEnded, HasFound, IsPending, IsSameSeat, needs};
 
@@ -20,7 +20,7 @@ use atomic_table::Seat;
 use saa_core_waits::spin_policy::{NONE, SpinPolicy};
 use saa_core_words::word::Word;
 use saa_word_steps::call::Answer;
-use saa_word_steps::place::{Ask, Given, Next, Place as Position, Stage};
+use saa_word_steps::place::{Ask, Next, Place as Position, ReleaseAmount, Stage};
 use std::sync::Wait;
 
 impl Form {
@@ -37,11 +37,11 @@ impl Form {
         spin_policy: SpinPolicy,
         pending: Pending,
     ) -> Answer
-        requires found { HasFound self.now pending (record position.old { stage = AskLoad ask }) found seat.old }
+        requires found { HasFound self.now pending (record position.old { stage = AcquireLoad ask }) found seat.old }
         ensures same { IsSameSeat seat.old seat.new }
         ensures ended { HasEnded self.now pending position.new result seat.new }
     {
-        let stage = Stage::AskLoad { ask };
+        let stage = Stage::AcquireLoad { ask };
         self.follow(
             rt,
             watch,
@@ -67,14 +67,14 @@ impl Form {
         spin_policy: SpinPolicy,
         pending: Pending,
     ) -> Answer
-        requires ranged { IsRanged (needs self.now) (AskExchange ask (word_of count_bits exchanged.0)) }
-        requires found { HasFound self.now pending (record position.old { stage = AskExchange ask (word_of count_bits exchanged.0) }) exchanged.1 seat.old }
+        requires ranged { IsRanged (needs self.now) (AcquireExchange ask (word_of count_bits exchanged.0)) }
+        requires found { HasFound self.now pending (record position.old { stage = AcquireExchange ask (word_of count_bits exchanged.0) }) exchanged.1 seat.old }
         ensures same { IsSameSeat seat.old seat.new }
         ensures ended { HasEnded self.now pending position.new result seat.new }
     {
         let (first, found) = exchanged;
         let seen = Word::unpack(first);
-        let stage = Stage::AskExchange { ask, seen };
+        let stage = Stage::AcquireExchange { ask, seen };
         self.follow(
             rt,
             watch,
@@ -99,11 +99,11 @@ impl Form {
         found: u64,
         pending: Pending,
     ) -> Answer
-        requires found { HasFound self.now pending (record position.old { stage = ReleaseLoad (Asked request) }) found seat.old }
+        requires found { HasFound self.now pending (record position.old { stage = ReleaseLoad (Requested request) }) found seat.old }
         ensures same { IsSameSeat seat.old seat.new }
         ensures ended { HasEnded self.now pending position.new result seat.new }
     {
-        let given = Given::Asked(request);
+        let given = ReleaseAmount::Requested(request);
         let stage = Stage::ReleaseLoad { given };
         self.follow(rt, watch, seat, position, stage, found, NONE, pending)
     }
@@ -120,13 +120,13 @@ impl Form {
         exchanged: (u64, u64),
         pending: Pending,
     ) -> Answer
-        requires ranged { IsRanged (needs self.now) (ReleaseExchange (Asked request) (word_of count_bits exchanged.0)) }
-        requires found { HasFound self.now pending (record position.old { stage = ReleaseExchange (Asked request) (word_of count_bits exchanged.0) }) exchanged.1 seat.old }
+        requires ranged { IsRanged (needs self.now) (ReleaseExchange (Requested request) (word_of count_bits exchanged.0)) }
+        requires found { HasFound self.now pending (record position.old { stage = ReleaseExchange (Requested request) (word_of count_bits exchanged.0) }) exchanged.1 seat.old }
         ensures same { IsSameSeat seat.old seat.new }
         ensures ended { HasEnded self.now pending position.new result seat.new }
     {
         let (first, found) = exchanged;
-        let (given, seen) = (Given::Asked(request), Word::unpack(first));
+        let (given, seen) = (ReleaseAmount::Requested(request), Word::unpack(first));
         let stage = Stage::ReleaseExchange { given, seen };
         self.follow(rt, watch, seat, position, stage, found, NONE, pending)
     }

@@ -6,7 +6,7 @@ ghost use Rattle.saa_core_spec.specs.declared.polling.Error.TheVariants.{NotRead
 ghost use Rattle.saa_word_steps.specs.declared.call.Answer.{Answer};
 ghost use Rattle.saa_word_steps.specs.declared.call.Answer.TheVariants.{Bool as Says, Taken};
 ghost use Rattle.saa_word_steps.specs.declared.call.WordCall.TheVariants.{Register, RegisterMode, TryPoll, Poll, Cancel};
-ghost use Rattle.saa_word_steps.specs.declared.event.Event.TheVariants.{Got};
+ghost use Rattle.saa_word_steps.specs.declared.event.Event.TheVariants.{Acquired};
 ghost use Rattle.saa_word_steps.specs.declared.place.Registration.{Registration};
 ghost use Rattle.saa_word_steps.specs.declared.place.Registration.TheVariants.{Idle};
 ghost use Rattle.saa_word_steps.specs.Needs.{Needs};
@@ -24,7 +24,7 @@ pub fn one_history()
     ensures compared { (about : About) (words : List ℕ) (views : List View) → AreLedTo about words views
         → All (λ v. All (λ w. BeginsWith v.seen w.seen ⊎ BeginsWith w.seen v.seen) views) views }
     ensures one_first { (about : About) (words : List ℕ) (v w : View) (one other request : ℕ) → AreLedTo about words (v ∷ w ∷ []) → one ≢ other
-        → v.seen ≡ (one, Got request) ∷ [] → w.seen ≢ (other, Got request) ∷ [] }
+        → v.seen ≡ (one, Acquired request) ∷ [] → w.seen ≢ (other, Acquired request) ∷ [] }
 {}
 
 /// What a place is registered as behind a registration, a poll and a cancel, for a form that is built on these calls: whatever the form needs, and

@@ -104,7 +104,7 @@ impl Left {
 }
 
 impl Lock {
-    ghost use Rattle.saa_word_threads.specs.Locks.{AreNew, HasLeft, IsDealtBy, IsLeftOf, IsMade, IsWaited, about_of, spin_policy_of, source_of, table_of, view_left};
+    ghost use Rattle.saa_word_threads.specs.Locks.{AreNew, HasLeft, IsDealtBy, IsLeftOf, IsMade, AcquiresAndPolls, about_of, spin_policy_of, source_of, table_of, view_left};
 
     /// The most owners that share a lock.
     pub const MAX_SHARED_OWNERS: usize = 62;
@@ -181,7 +181,7 @@ impl Lock {
     /// more, and the wait.
     pub fn lock<R: Wait>(&self, rt: &R, place: &mut Place) -> bool
         requires { IsDealtBy self.now place.old }
-        ensures waited { IsWaited Exclusive place.old result place.new }
+        ensures waited { AcquiresAndPolls Exclusive place.old result place.new }
         ensures spin_policy { spin_policy_of place.new ≡ waiting }
     {
         self.wait_with_policy(rt, &Unwatched, place, Mode::Exclusive, DEFAULT)
@@ -192,7 +192,7 @@ impl Lock {
     /// Looks, waits, answers `false` and costs as [`Self::lock`].
     pub fn share<R: Wait>(&self, rt: &R, place: &mut Place) -> bool
         requires { IsDealtBy self.now place.old }
-        ensures waited { IsWaited Shared place.old result place.new }
+        ensures waited { AcquiresAndPolls Shared place.old result place.new }
         ensures spin_policy { spin_policy_of place.new ≡ waiting }
     {
         self.wait_with_policy(rt, &Unwatched, place, Mode::Shared, DEFAULT)
@@ -209,7 +209,7 @@ impl Lock {
         spin_policy: SpinPolicy,
     ) -> bool
         requires { IsDealtBy self.now place.old }
-        ensures waited { IsWaited mode place.old result place.new }
+        ensures waited { AcquiresAndPolls mode place.old result place.new }
         ensures spin_policy { spin_policy_of place.new ≡ spin_policy }
     {
         if !self.register_with_policy(rt, watch, place, mode, spin_policy) {

@@ -19,7 +19,7 @@ use crate::visitor::Visitor;
 use crate::watch::Unwatched;
 use crate::words::Words;
 use saa_word_steps::call::{TryLockError, WordCall};
-use saa_word_steps::place::{Given, Reading, Stage};
+use saa_word_steps::place::{Reading, ReleaseAmount, Stage};
 use std::sync::Wait;
 
 impl Lock {
@@ -86,7 +86,7 @@ impl Lock {
         requires { IsVisitorOf self.now visitor.old }
         ensures { (answer : Answer) × (result ≡ is_yes answer) × IsVisited Downgrade visitor.old answer visitor.new }
     {
-        let given = Given::AllButAShare;
+        let given = ReleaseAmount::AllButAShare;
         let stage = Stage::ReleaseLoad { given };
         yes(
             self.form

@@ -58,7 +58,7 @@ impl Form {
 
     // Whether a look may let a place at this stage get on. An exchange that must fail would take the main word's cache line.
     pub(crate) fn may_get_on(&self, stage: Stage) -> bool {
-        if let Stage::AskExchange { ask, .. } = stage {
+        if let Stage::AcquireExchange { ask, .. } = stage {
             let seen = Word::unpack(self.table.shared.peek(0));
             return seen.is_poisoned || self.grants(seen, ask);
         }
@@ -80,11 +80,11 @@ impl Form {
     {
         let at = Snapshot::of(&place);
         match place.stage {
-            Stage::AskLoad { .. } => {
+            Stage::AcquireLoad { .. } => {
                 let found = self.seek_by_load::<M>(seat, at, pending);
                 unless_joining(place, place.resume(self.rules, pending.me, found))
             }
-            Stage::AskExchange { ask, seen } => {
+            Stage::AcquireExchange { ask, seen } => {
                 let count = self.rules.plus(seen.count, ask.request);
                 let old = seen.pack();
                 let raised = Word { count, ..seen };

@@ -20,7 +20,7 @@ use crate::visitor::Visitor;
 use crate::wakers::Wakers;
 use crate::words::Words;
 use atomic_table::{Seat, Table};
-use saa_word_steps::place::{Back, Place as Position, Registration, Stage};
+use saa_word_steps::place::{AfterWalk, Place as Position, Registration, Stage};
 use saa_word_steps::rules::Rules;
 use std::alloc::{AllocError, Global};
 use std::marker::Brand;
@@ -90,7 +90,7 @@ impl Form {
         let position = Position {
             registration: Registration::Idle,
             stage: Stage::Quiet,
-            back: Back::Tells,
+            back: AfterWalk::Tells,
         };
         Place {
             seat,

@@ -46,7 +46,7 @@ impl Place {
     pub fn has_joined(&self) -> bool
         ensures { result ≡ is_slot (registered self.now) }
     {
-        matches!(self.position.registration, Registration::Slot(_))
+        matches!(self.position.registration, Registration::Queued(_))
     }
 }
 

@@ -55,7 +55,7 @@ pub struct SemaphoreOf<const MAX: usize> {
 pub type Semaphore = SemaphoreOf<63>;
 
 impl<const MAX: usize> SemaphoreOf<MAX> {
-    ghost use Rattle.saa_word_threads.specs.Semaphores.{HasLeft, IsDealtBy, IsLeftOf, IsMade, IsWaited, about_of, source_of, table_of};
+    ghost use Rattle.saa_word_threads.specs.Semaphores.{HasLeft, IsDealtBy, IsLeftOf, IsMade, AcquiresAndPolls, about_of, source_of, table_of};
 
     /// The most permits of a semaphore.
     pub const MAX_PERMITS: usize = MAX;
@@ -106,7 +106,7 @@ impl<const MAX: usize> SemaphoreOf<MAX> {
     /// [`Self::MAX_PERMITS`] and at a place that is registered.
     pub fn acquire_many<R: Wait>(&self, rt: &R, place: &mut Place, count: usize) -> bool
         requires { IsDealtBy self.now place.old }
-        ensures waited { IsWaited self.now count place.old result place.new }
+        ensures waited { AcquiresAndPolls self.now count place.old result place.new }
         ensures spin_policy { spin_policy_of place.new ≡ none }
     {
         self.wait_with_policy(rt, &Unwatched, place, count, NONE)
@@ -123,7 +123,7 @@ impl<const MAX: usize> SemaphoreOf<MAX> {
         spin_policy: SpinPolicy,
     ) -> bool
         requires { IsDealtBy self.now place.old }
-        ensures waited { IsWaited self.now count place.old result place.new }
+        ensures waited { AcquiresAndPolls self.now count place.old result place.new }
         ensures spin_policy { spin_policy_of place.new ≡ spin_policy }
     {
         if !self.register_with_policy(rt, watch, place, count, spin_policy) {

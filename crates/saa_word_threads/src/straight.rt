@@ -9,8 +9,8 @@ ghost use Rattle.saa_word_steps.specs.declared.call.WordCall.TheVariants.{Poll};
 ghost use Rattle.saa_word_steps.specs.declared.call.Answer.{Answer};
 ghost use Rattle.saa_word_steps.specs.declared.call.Answer.TheVariants.{Bool as Says};
 ghost use Rattle.saa_word_steps.specs.declared.place.Next.TheVariants.{Done};
-ghost use Rattle.saa_word_steps.specs.declared.place.Stage.TheVariants.{AskLoad};
-ghost use Rattle.saa_word_steps.specs.declared.place.Given.TheVariants.{Asked};
+ghost use Rattle.saa_word_steps.specs.declared.place.Stage.TheVariants.{AcquireLoad};
+ghost use Rattle.saa_word_steps.specs.declared.place.ReleaseAmount.TheVariants.{Requested};
 ghost use Rattle.saa_word_steps.specs.Steps.{going, released_as, started};
 ghost use Rattle.saa_word_threads.specs.SpinPolicies.{none};
 ghost use Rattle.saa_word_threads.specs.Pending.{IsAt, IsCalledAt, Takes, needs};
@@ -27,7 +27,9 @@ use atomic_table::Seat;
 use saa_core_waits::spin_policy::{NONE, SpinPolicy};
 use saa_core_words::word::Word;
 use saa_word_steps::call::{Answer, WordCall};
-use saa_word_steps::place::{Ask, Back, Given, Place as Position, Registration, Stage};
+use saa_word_steps::place::{
+    AfterWalk, Ask, Place as Position, Registration, ReleaseAmount, Stage,
+};
 use std::marker::Brand;
 use std::snapshot::Snapshot;
 use std::sync::Wait;
@@ -88,7 +90,7 @@ impl Form {
     ) -> Answer
         requires dealt { IsAt self.now place.old.seat }
         requires takes { Takes self.now call }
-        requires starts { started (needs self.now) place.old.position call ≡ going place.old.position (AskLoad ask) }
+        requires starts { started (needs self.now) place.old.position call ≡ going place.old.position (AcquireLoad ask) }
         ensures same { IsSamePlace place.old place.new }
         ensures spin_policy { spin_policy_of place.new ≡ spin_policy }
         ensures called { IsCalledAt self.now call place.old result place.new }
@@ -96,7 +98,7 @@ impl Form {
         place.last_ask = LastAsk { spin_policy };
         let pending = Pending::of(call, place);
         let looking = Snapshot::of(&Position {
-            stage: Stage::AskLoad { ask },
+            stage: Stage::AcquireLoad { ask },
             ..place.position
         });
         watch.at(Moment::Looks);
@@ -107,7 +109,7 @@ impl Form {
             return self.ask_on(rt, watch, seat, position, ask, found, spin_policy, pending);
         }
         let changing = Snapshot::of(&Position {
-            stage: Stage::AskExchange { ask, seen },
+            stage: Stage::AcquireExchange { ask, seen },
             ..place.position
         });
         let count = self.rules.plus(seen.count, ask.request);
@@ -131,7 +133,7 @@ impl Form {
             );
         }
         if ask.joins {
-            place.position.registration = Registration::Once(GRANTED, ask.request);
+            place.position.registration = Registration::AnsweredAtOnce(GRANTED, ask.request);
             return Answer::Bool(true);
         }
         self.granted_try()
@@ -150,7 +152,7 @@ impl Form {
         ensures spin_policy { spin_policy_of place.new ≡ spin_policy_of place.old }
         ensures called { (answer : Answer) × (result ≡ is_granted answer) × IsCalledAt self.now Poll place.old answer place.new }
     {
-        if let Registration::Once(value, _request) = place.position.registration {
+        if let Registration::AnsweredAtOnce(value, _request) = place.position.registration {
             place.position.registration = Registration::Idle;
             return value == GRANTED;
         }
@@ -169,20 +171,20 @@ impl Form {
     ) -> bool
         requires dealt { IsAt self.now place.old.seat }
         requires takes { Takes self.now call }
-        requires starts { started (needs self.now) place.old.position call ≡ released_as place.old.position (Asked request) }
+        requires starts { started (needs self.now) place.old.position call ≡ released_as place.old.position (Requested request) }
         ensures same { IsSamePlace place.old place.new }
         ensures called { (answer : Answer) × (result ≡ is_yes answer) × IsCalledAt self.now call place.old answer place.new }
     {
         let pending = Pending::of(call, place);
-        let given = Given::Asked(request);
+        let given = ReleaseAmount::Requested(request);
         let looking = Snapshot::of(&Position {
             stage: Stage::ReleaseLoad { given },
-            back: Back::Tells,
+            back: AfterWalk::Tells,
             ..place.position
         });
         let found = self.seek_by_load::<Brand>(&mut place.seat, looking, &pending);
         let seen = Word::unpack(found);
-        place.position.back = Back::Tells;
+        place.position.back = AfterWalk::Tells;
         let Some(count) = self.lowers(seen, request) else {
             let (seat, position) = (&mut place.seat, &mut place.position);
             return yes(self.give_on(rt, watch, seat, position, request, found, pending));

@@ -5,9 +5,9 @@
 ghost use Rattle.std.specs.Prelude.{◌≡◌};
 ghost use Rattle.saa_word_steps.specs.declared.call.Answer.{Answer};
 ghost use Rattle.saa_word_steps.specs.declared.call.WordCall.TheVariants.{Cancel, RegisterMode, Release, ReleaseShare, TryPoll, TryShare};
-ghost use Rattle.saa_word_threads.specs.Locks.{IsDealtBy as IsDealtByLock, IsMade as IsMadeAtLock, IsWaited as IsWaitedAtLock};
+ghost use Rattle.saa_word_threads.specs.Locks.{IsDealtBy as IsDealtByLock, IsMade as IsMadeAtLock, AcquiresAndPolls as IsWaitedAtLock};
 ghost use Rattle.saa_word_threads.specs.Public.{is_yes, polled_lock, tried};
-ghost use Rattle.saa_word_threads.specs.Semaphores.{IsDealtBy, IsMade, IsWaited};
+ghost use Rattle.saa_word_threads.specs.Semaphores.{IsDealtBy, IsMade, AcquiresAndPolls};
 ghost use Rattle.futures.specs.Task.{IsArmed, Keeps};
 ghost use Rattle.futures.specs.Poll.{IfReady, OnPending};
 
@@ -66,7 +66,7 @@ pub fn acquire_with_policy<R: Wait, W: Watch, const MAX: usize>(
     spin_policy: SpinPolicy,
 ) -> bool
     requires { IsDealtBy semaphore.now place.old }
-    ensures { IsWaited semaphore.now count place.old result place.new }
+    ensures { AcquiresAndPolls semaphore.now count place.old result place.new }
 {
     semaphore.wait_with_policy(rt, watch, place, count, spin_policy)
 }
@@ -177,7 +177,7 @@ pub fn may_exchange(lock: &Lock) -> bool {
         is_poisoned: false,
         tail: 0,
     };
-    lock.form.may_get_on(Stage::AskExchange { ask, seen })
+    lock.form.may_get_on(Stage::AcquireExchange { ask, seen })
 }
 
 /// Whether an answer is written for the place of this number that it hasn't taken yet. `false` for a number of no place.

@@ -3,9 +3,9 @@
 ghost use Rattle.std.specs.Prelude.{◌≡◌, false};
 ghost use Rattle.saa_word_steps.specs.declared.call.Answer.{Answer};
 ghost use Rattle.saa_word_steps.specs.declared.operation.Operation.TheVariants.{Load, Exchange};
-ghost use Rattle.saa_word_steps.specs.declared.place.Given.TheVariants.{Asked};
+ghost use Rattle.saa_word_steps.specs.declared.place.ReleaseAmount.TheVariants.{Requested};
 ghost use Rattle.saa_word_steps.specs.declared.place.Next.TheVariants.{Going};
-ghost use Rattle.saa_word_steps.specs.declared.place.Stage.TheVariants.{AskLoad, BackLoad, ReadLoad};
+ghost use Rattle.saa_word_steps.specs.declared.place.Stage.TheVariants.{AcquireLoad, BackLoad, ReadLoad};
 ghost use Rattle.saa_word_steps.specs.Steps.{IsRanged, going, operation_of, released_as, started};
 ghost use Rattle.saa_word_proofs.specs.Promises.{idle_place};
 ghost use Rattle.saa_word_proofs.specs.Refinement.{IsVisiting};
@@ -25,7 +25,7 @@ use atomic_table::Seat;
 use saa_core_words::word::Word;
 use saa_word_steps::call::{Answer, WordCall};
 use saa_word_steps::place::{
-    Ask, Back, Given, Next, Place as Position, Reading, Registration, Stage,
+    AfterWalk, Ask, Next, Place as Position, Reading, Registration, ReleaseAmount, Stage,
 };
 use std::marker::Brand;
 use std::snapshot::Snapshot;
@@ -90,7 +90,7 @@ impl Form {
     ) -> Answer
         requires entered { IsAt self.now visitor.old.seat }
         requires takes { Takes self.now call }
-        requires starts { started (needs self.now) idle_place call ≡ going idle_place (AskLoad (record { request = request; joins = false })) }
+        requires starts { started (needs self.now) idle_place call ≡ going idle_place (AcquireLoad (record { request = request; joins = false })) }
         ensures same { visitor.new.seat.table_id ≡ visitor.old.seat.table_id }
         ensures called { IsCalledBy self.now call visitor.old result visitor.new }
     {
@@ -99,15 +99,15 @@ impl Form {
             request,
             joins: false,
         };
-        let looking = Snapshot::of(&standing(Stage::AskLoad { ask }));
+        let looking = Snapshot::of(&standing(Stage::AcquireLoad { ask }));
         watch.at(Moment::Looks);
         let found = self.visit_look::<Brand>(&mut visitor.seat, looking, &visit);
         let seen = Word::unpack(found);
         if !self.grants(seen, ask) {
-            let stage = Stage::AskLoad { ask };
+            let stage = Stage::AcquireLoad { ask };
             return self.visit_follow(rt, watch, &mut visitor.seat, stage, found, visit);
         }
-        let changing = Snapshot::of(&standing(Stage::AskExchange { ask, seen }));
+        let changing = Snapshot::of(&standing(Stage::AcquireExchange { ask, seen }));
         let count = self.rules.plus(seen.count, ask.request);
         let old = seen.pack();
         let raised = Word { count, ..seen };
@@ -115,7 +115,7 @@ impl Form {
         watch.at(Moment::Takes);
         let other = self.visit_change::<Brand>(&mut visitor.seat, changing, old, new, &visit);
         if other != old {
-            let stage = Stage::AskExchange { ask, seen };
+            let stage = Stage::AcquireExchange { ask, seen };
             return self.visit_follow(rt, watch, &mut visitor.seat, stage, other, visit);
         }
         self.granted_try()
@@ -133,12 +133,12 @@ impl Form {
     ) -> bool
         requires entered { IsAt self.now visitor.old.seat }
         requires takes { Takes self.now call }
-        requires starts { started (needs self.now) idle_place call ≡ released_as idle_place (Asked request) }
+        requires starts { started (needs self.now) idle_place call ≡ released_as idle_place (Requested request) }
         ensures same { visitor.new.seat.table_id ≡ visitor.old.seat.table_id }
         ensures called { (answer : Answer) × (result ≡ is_yes answer) × IsCalledBy self.now call visitor.old answer visitor.new }
     {
         let visit = Visit::of(call, visitor);
-        let given = Given::Asked(request);
+        let given = ReleaseAmount::Requested(request);
         let looking = Snapshot::of(&standing(Stage::ReleaseLoad { given }));
         let found = self.visit_look::<Brand>(&mut visitor.seat, looking, &visit);
         let seen = Word::unpack(found);
@@ -378,6 +378,6 @@ fn standing(stage: Stage) -> Position
     Position {
         registration: Registration::Idle,
         stage,
-        back: Back::Tells,
+        back: AfterWalk::Tells,
     }
 }

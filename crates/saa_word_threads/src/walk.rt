@@ -6,7 +6,7 @@
 ghost use Rattle.std.specs.Prelude.{◌≡◌, ◌==◌, if◌then◌else◌, ℕ, Some};
 ghost use Rattle.saa_core_spec.specs.Values.{granted_value};
 ghost use Rattle.saa_word_steps.specs.declared.operation.Operation.TheVariants.{Load, Exchange, Add, Store};
-ghost use Rattle.saa_word_steps.specs.declared.place.Stage.TheVariants.{BackLoad, Forward, Close, Empty, GoRound, ShowLoad};
+ghost use Rattle.saa_word_steps.specs.declared.place.Stage.TheVariants.{BackLoad, Forward, Close, Empty, Retry, ShowLoad};
 ghost use Rattle.saa_word_steps.specs.Steps.{finished, next_of, operation_of, settled_word, shown_all};
 ghost use Rattle.saa_word_proofs.specs.Refinement.{IsVisiting};
 ghost use Rattle.saa_word_threads.specs.Pending.{IsSameSeat, about_of, needs};
@@ -19,7 +19,7 @@ use atomic_table::Seat;
 use saa_core_words::answer_word;
 use saa_core_words::line_word::LineWord;
 use saa_core_words::word::Word;
-use saa_word_steps::place::{Afterwards, Place as Position, Stage};
+use saa_word_steps::place::{AfterShow, Place as Position, Stage};
 use std::marker::Brand;
 use std::snapshot::Snapshot;
 use std::sync::Wait;
@@ -245,7 +245,7 @@ impl Form {
         }
     }
 
-    // Publishes what is granted, and clears the flag; tries again where only the tail differs, and goes round where something was given back.
+    // Publishes what is granted, and clears the flag; tries again where only the tail differs, and retries where something was given back.
     fn publish<R: Wait, W: Watch, C: Course>(
         &self,
         rt: &R,
@@ -279,7 +279,7 @@ impl Form {
         unreachable!()
     }
 
-    // Publishes that all are granted and nobody is in the queue, and clears the flag; or goes round, with the tail kept, where another waiter has joined
+    // Publishes that all are granted and nobody is in the queue, and clears the flag; or retries, with the tail kept, where another waiter has joined
     // behind it.
     fn publish_all<W: Watch, C: Course>(
         &self,
@@ -310,7 +310,7 @@ impl Form {
         let count = count.saturating_sub(self.rules.takes(line.request));
         let top = line.older;
         if top != 0 {
-            let cutting = walk.at(Stage::CutToGoRound {
+            let cutting = walk.at(Stage::CutForRetry {
                 seen,
                 current,
                 count,
@@ -333,11 +333,11 @@ impl Form {
         count: u16,
         top: u16,
     ) -> (Option<u16>, Option<Word>)
-        requires { IsUnderway self.now (C.begun walk.now.course.now) (at_stage walk.now.place (GoRound seen count top)) seat.old }
+        requires { IsUnderway self.now (C.begun walk.now.course.now) (at_stage walk.now.place (Retry seen count top)) seat.old }
         ensures same { IsSameSeat seat.old seat.new }
         ensures underway { GoesOnUnderway self.now (C.begun walk.now.course.now) (publishing walk.now.place result.0 result.1) seat.new }
     {
-        let going = walk.at(Stage::GoRound { seen, count, top });
+        let going = walk.at(Stage::Retry { seen, count, top });
         let added = u64::from(count.saturating_sub(seen.count));
         watch.at(Moment::Publishes);
         let found = self.walk_add::<C, Brand>(seat, walk, going, added);
@@ -515,12 +515,12 @@ fn newest(top: u16) -> Option<u16>
 
 // What comes behind the answers that are shown.
 #[inline(always)]
-fn behind(now: Option<Word>) -> Afterwards
+fn behind(now: Option<Word>) -> AfterShow
     ensures { result ≡ afterwards_of now }
 {
     match now {
-        None => Afterwards::Ends,
-        Some(word) => Afterwards::Again(word),
+        None => AfterShow::Ends,
+        Some(word) => AfterShow::Again(word),
     }
 }
 

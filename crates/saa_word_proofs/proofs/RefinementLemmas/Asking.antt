@@ -8,16 +8,16 @@ use Rattle.saa_core_words.specs.Words.{count_bits}
 use Rattle.saa_word_steps.specs.declared.place.Place.{Place}
 use Rattle.saa_word_steps.specs.declared.place.Ask.{Ask}
 use Rattle.saa_word_steps.specs.declared.place.Reading.{Reading}
-use Rattle.saa_word_steps.specs.declared.place.Registration.TheVariants.{Once}
+use Rattle.saa_word_steps.specs.declared.place.Registration.TheVariants.{AnsweredAtOnce}
 use Rattle.saa_word_steps.specs.declared.place.Next.{Next}
-use Rattle.saa_word_steps.specs.declared.place.Stage.TheVariants.{Quiet, ReadLoad, AskLoad, AskExchange, Prepare}
+use Rattle.saa_word_steps.specs.declared.place.Stage.TheVariants.{Quiet, ReadLoad, AcquireLoad, AcquireExchange, Prepare}
 use Rattle.saa_word_steps.specs.Needs.{Needs, AreNeeds, fits_count}
 use Rattle.saa_word_steps.specs.declared.event.Event.{Event}
-use Rattle.saa_word_steps.specs.declared.event.Event.TheVariants.{AskedPoisoned, Got, Refused, Read}
+use Rattle.saa_word_steps.specs.declared.event.Event.TheVariants.{AskedPoisoned, Acquired, Refused, Read}
 use Rattle.saa_word_steps.specs.AbstractState.{AbstractState, must_wait, is_empty, is_in}
 use Rattle.saa_word_steps.specs.Steps.{decided, found_poisoned, granted, going, done}
 use Rattle.saa_word_steps.specs.Readings.{tried_answer}
-use Rattle.saa_word_proofs.specs.Refinement.{joins_line, is_holder, IsAlone, IsShowing, waits_behind, Refines}
+use Rattle.saa_word_proofs.specs.Refinement.{joins_line, is_holder, IsLocallyTrue, IsShowing, waits_behind, Invariant}
 use Rattle.saa_word_proofs.specs.Rows.{main_of, updated}
 use Rattle.saa_word_proofs.specs.Registering.{is_slot}
 use Rattle.saa_word_proofs.specs.StepRefinement.{StepRefines, decided_events}
@@ -27,7 +27,7 @@ use Rattle.saa_word_proofs.proofs.RefinementLemmas.Outcomes.{not-holder, Outcome
 
 -- a place that only reads answers by the main word as it stands
 pub step-ReadLoad : (needs : Needs) → AreNeeds needs → needs.top < 2 ^ count_bits → (places : ℕ) (row : ℕ → ℕ) (standing : ℕ → Place) (state : AbstractState) (me : ℕ)
-    → places < 65536 → (s : Refines needs places row standing state)
+    → places < 65536 → (s : Invariant needs places row standing state)
     → (reading : Reading) → (standing me).stage ≡ ReadLoad reading → StepRefines needs places row standing state me (ReadLoad reading)
 step-ReadLoad needs lawful wide places row standing state me room s reading at = record {
   events = Read (main_of row).count (main_of row).is_poisoned ∷ [];
@@ -43,7 +43,7 @@ step-ReadLoad needs lawful wide places row standing state me room s reading at =
 }
 
 -- an ask has to wait exactly where it has to wait behind the main word
-pub waits-same : (needs : Needs) (places : ℕ) (row : ℕ → ℕ) (standing : ℕ → Place) (state : AbstractState) (s : Refines needs places row standing state) (request : ℕ)
+pub waits-same : (needs : Needs) (places : ℕ) (row : ℕ → ℕ) (standing : ℕ → Place) (state : AbstractState) (s : Invariant needs places row standing state) (request : ℕ)
     → waits_behind needs (main_of row) request ≡ must_wait needs state request
 waits-same needs places row standing state s request =
     let empty : (main_of row).tail == 0 ≡ is_empty state.line = ap (λ (n : ℕ). n == 0) s.main.tail ∙ newest-empty state.line in
@@ -63,7 +63,7 @@ next_by needs place ask seen is_poisoned =
     then found_poisoned place ask
     else (if waits_behind needs seen ask.request
     then (if ask.joins then going place (Prepare ask.request seen) else done place (tried_answer needs false))
-    else (if needs.takes ask.request == 0 then granted needs place ask else going place (AskExchange ask seen)))
+    else (if needs.takes ask.request == 0 then granted needs place ask else going place (AcquireExchange ask seen)))
 
 -- and what its answer names
 abbrev names_by : Needs → Ask → Word → Bool → List Event
@@ -72,11 +72,11 @@ names_by needs ask seen is_poisoned =
     then AskedPoisoned ∷ []
     else (if waits_behind needs seen ask.request
     then (if ask.joins then [] else Refused ask.request ∷ [])
-    else (if needs.takes ask.request == 0 then Got ask.request ∷ [] else []))
+    else (if needs.takes ask.request == 0 then Acquired ask.request ∷ [] else []))
 
 -- An ask that is decided by the main word as it stands
 pub decided-outcome : (needs : Needs) → needs.top < 2 ^ count_bits → (places : ℕ) (row : ℕ → ℕ) (standing : ℕ → Place) (state : AbstractState) (me : ℕ)
-    → (s : Refines needs places row standing state) → is_holder (standing me).stage ≡ false → s.owed me ≡ []
+    → (s : Invariant needs places row standing state) → is_holder (standing me).stage ≡ false → s.owed me ≡ []
     → (ask : Ask) → (places ≤ me → ask.joins ≡ false) → ask.request < 65536 → (ask.joins ≡ true → is_slot (standing me).registration ≡ false)
     → Outcome needs places row standing state me (decided needs (standing me) ask (main_of row)) (decided_events needs ask.request ask.joins (main_of row))
 decided-outcome needs wide places row standing state me s none nothing ask unjoined small idle = by (main_of row).is_poisoned refl
@@ -97,7 +97,7 @@ decided-outcome needs wide places row standing state me s none nothing ask unjoi
             run = (sym s.main.poison ∙ poisoned, refl);
             names = refl;
             calm = λ semaphore. refl;
-            stands = moved needs places row standing state me s (record (standing me) { registration = Once poisoned_value ask.request; stage = Quiet }) (λ out. refl)
+            stands = moved needs places row standing state me s (record (standing me) { registration = AnsweredAtOnce poisoned_value ask.request; stage = Quiet }) (λ out. refl)
                 (sym (idle joins)) tt tt still tt nothing (sym none) (λ is. absurd (no_holder is));
           })
           | inr tries ↦ rw tries (record {
@@ -146,16 +146,16 @@ decided-outcome needs wide places row standing state me s none nothing ask unjoi
                     ap (λ (n : ℕ). record state { count = n }) (omega (arith, same_number (needs.takes ask.request) 0 nothing_taken)) in
                     elim (cases_Bool ask.joins) [
                       | inl joins ↦ rw (free, nothing_taken, joins) (record {
-                        events = Got ask.request ∷ [];
+                        events = Acquired ask.request ∷ [];
                         last = state;
                         run = ((calm, alone, fits), same);
                         names = refl;
                         calm = λ semaphore. refl;
-                        stands = moved needs places row standing state me s (record (standing me) { registration = Once 0 ask.request; stage = Quiet }) (λ out. refl)
+                        stands = moved needs places row standing state me s (record (standing me) { registration = AnsweredAtOnce 0 ask.request; stage = Quiet }) (λ out. refl)
                             (sym (idle joins)) tt tt still tt nothing (sym none) (λ is. absurd (no_holder is));
                       })
                       | inr tries ↦ rw (free, nothing_taken, tries) (record {
-                        events = Got ask.request ∷ [];
+                        events = Acquired ask.request ∷ [];
                         last = state;
                         run = ((calm, alone, fits), same);
                         names = refl;
@@ -170,19 +170,19 @@ decided-outcome needs wide places row standing state me s none nothing ask unjoi
                   run = refl;
                   names = refl;
                   calm = λ semaphore. refl;
-                  stands = moved needs places row standing state me s (record (standing me) { stage = AskExchange ask seen }) unjoined refl
+                  stands = moved needs places row standing state me s (record (standing me) { stage = AcquireExchange ask seen }) unjoined refl
                       (count-small (row 0), both.1) (small, idle, both.0, clean) still tt nothing (sym none) (λ is. absurd (no_holder is));
                 })
               ]
         ]
 
 -- a place that asks loads the main word and is decided by it
-pub step-AskLoad : (needs : Needs) → AreNeeds needs → needs.top < 2 ^ count_bits → (places : ℕ) (row : ℕ → ℕ) (standing : ℕ → Place) (state : AbstractState) (me : ℕ)
-    → places < 65536 → (s : Refines needs places row standing state)
-    → (ask : Ask) → (standing me).stage ≡ AskLoad ask → StepRefines needs places row standing state me (AskLoad ask)
-step-AskLoad needs lawful wide places row standing state me room s ask at =
-    let alone : IsAlone needs (standing me).registration (standing me).back (AskLoad ask) =
-    subst (λ stage. IsAlone needs (standing me).registration (standing me).back stage) at (s.stages.alone me) in
+pub step-AcquireLoad : (needs : Needs) → AreNeeds needs → needs.top < 2 ^ count_bits → (places : ℕ) (row : ℕ → ℕ) (standing : ℕ → Place) (state : AbstractState) (me : ℕ)
+    → places < 65536 → (s : Invariant needs places row standing state)
+    → (ask : Ask) → (standing me).stage ≡ AcquireLoad ask → StepRefines needs places row standing state me (AcquireLoad ask)
+step-AcquireLoad needs lawful wide places row standing state me room s ask at =
+    let alone : IsLocallyTrue needs (standing me).registration (standing me).back (AcquireLoad ask) =
+    subst (λ stage. IsLocallyTrue needs (standing me).registration (standing me).back stage) at (s.stages.alone me) in
     let out = decided-outcome needs wide places row standing state me s (ap is_holder at)
     (subst (λ stage. IsShowing (s.owed me) (s.answer_value me) stage) at (s.stages.showing me)) ask (λ out. ap joins_line (sym at) ∙ s.seats.beyond me out) alone.0 alone.1 in
-    only-looked needs places row standing state me (AskLoad ask) out refl refl refl refl
+    only-looked needs places row standing state me (AcquireLoad ask) out refl refl refl refl

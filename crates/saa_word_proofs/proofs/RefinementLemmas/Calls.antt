@@ -8,10 +8,10 @@ use Rattle.saa_word_steps.specs.declared.call.Answer.TheVariants.{Bool as Says}
 use Rattle.saa_word_steps.specs.declared.place.Place.{Place}
 use Rattle.saa_word_steps.specs.declared.place.Registration.{Registration}
 use Rattle.saa_word_steps.specs.declared.place.Stage.{Stage}
-use Rattle.saa_word_steps.specs.declared.place.Stage.TheVariants.{Quiet, ReadLoad, AskLoad, AskExchange, Prepare, Join, ReleaseLoad, ReleaseExchange, BackLoad, BackStore, Forward, CutToClose, CutToGoRound, Close, Empty, GoRound, ShowLoad, ShowStore, Take, FlagLoad, FlagExchange, LookLoad, LookStore, Unlink, DropTail, PoisonLoad, PoisonExchange, Clear}
+use Rattle.saa_word_steps.specs.declared.place.Stage.TheVariants.{Quiet, ReadLoad, AcquireLoad, AcquireExchange, Prepare, Join, ReleaseLoad, ReleaseExchange, BackLoad, BackStore, Forward, CutToClose, CutForRetry, Close, Empty, Retry, ShowLoad, ShowStore, Take, FlagLoad, FlagExchange, LookLoad, LookStore, Unlink, DropTail, PoisonLoad, PoisonExchange, Clear}
 use Rattle.saa_word_steps.specs.Needs.{Needs, fits_count}
 use Rattle.saa_word_steps.specs.declared.event.Event.{Event}
-use Rattle.saa_word_steps.specs.declared.event.Event.TheVariants.{Joined, Left, Poisoned, Cleared, NotCleared, Read}
+use Rattle.saa_word_steps.specs.declared.event.Event.TheVariants.{Joined, Cancelled, Poisoned, Cleared, NotCleared, Read}
 use Rattle.saa_word_steps.specs.Steps.{next_of}
 use Rattle.saa_word_steps.specs.Readings.{poisoned_word, read_as}
 use Rattle.saa_word_proofs.specs.StepRefinement.{gave, named_at}
@@ -26,12 +26,12 @@ under-next needs call registered me place Quiet found events h = absurd h
 under-next needs call registered me place (ReadLoad reading) found events h =
     rw h.1 (read-answered needs call registered reading (Read (word_of count_bits found).count (word_of count_bits found).is_poisoned)
     (read_as needs reading (word_of count_bits found).count (word_of count_bits found).is_poisoned) h.0 refl)
-under-next needs call registered me place (AskLoad ask) found events h =
-    rw h.1 (decided-under needs call registered (AskLoad ask) place ask (word_of count_bits found) h.0)
-under-next needs call registered me place (AskExchange ask seen) found events h =
+under-next needs call registered me place (AcquireLoad ask) found events h =
+    rw h.1 (decided-under needs call registered (AcquireLoad ask) place ask (word_of count_bits found) h.0)
+under-next needs call registered me place (AcquireExchange ask seen) found events h =
     elim (cases_Bool (found == word_number count_bits seen)) [
-      | inl same ↦ rw (h.1, same) (granted-under needs call registered (AskExchange ask seen) place ask h.0)
-      | inr differs ↦ rw (h.1, differs) (decided-under needs call registered (AskExchange ask seen) place ask (word_of count_bits found) h.0)
+      | inl same ↦ rw (h.1, same) (granted-under needs call registered (AcquireExchange ask seen) place ask h.0)
+      | inr differs ↦ rw (h.1, differs) (decided-under needs call registered (AcquireExchange ask seen) place ask (word_of count_bits found) h.0)
     ]
 under-next needs call registered me place (Prepare request seen) found events h = (h.0, ap (λ (l : List Event). l ++ []) h.1)
 under-next needs call registered me place (Join request seen) found events h =
@@ -78,8 +78,8 @@ under-next needs call registered me place (Forward seen current count) found eve
     ])
 under-next needs call registered me place (CutToClose seen current count line) found events h =
     unnamed needs call registered place.back (CutToClose seen current count line) events (next_of needs me place (CutToClose seen current count line) found) h
-under-next needs call registered me place (CutToGoRound seen current count line) found events h =
-    unnamed needs call registered place.back (CutToGoRound seen current count line) events (next_of needs me place (CutToGoRound seen current count line) found) h
+under-next needs call registered me place (CutForRetry seen current count line) found events h =
+    unnamed needs call registered place.back (CutForRetry seen current count line) events (next_of needs me place (CutForRetry seen current count line) found) h
 under-next needs call registered me place (Close seen count top) found events h =
     unnamed needs call registered place.back (Close seen count top) events (next_of needs me place (Close seen count top) found)
     (elim (cases_Bool (found == word_number count_bits seen)) [
@@ -104,8 +104,8 @@ under-next needs call registered me place (Empty seen current count line) found 
             | inr more ↦ rw (differs, more) h
           ]
     ])
-under-next needs call registered me place (GoRound seen count top) found events h =
-    unnamed needs call registered place.back (GoRound seen count top) events (next_of needs me place (GoRound seen count top) found)
+under-next needs call registered me place (Retry seen count top) found events h =
+    unnamed needs call registered place.back (Retry seen count top) events (next_of needs me place (Retry seen count top) found)
     (elim (cases_Bool (top == 0)) [
       | inl nobody ↦ rw nobody h
       | inr some ↦ rw some h
@@ -156,7 +156,7 @@ under-next needs call registered me place (DropTail seen older) found events h =
     elim (cases_Bool (found == word_number count_bits seen)) [
       | inl same ↦
           elim (cases_Bool (older == 0)) [
-            | inl alone ↦ rw (same, alone) (cancel-answered needs call registered (events ++ Left ∷ []) left.0 left.1)
+            | inl alone ↦ rw (same, alone) (cancel-answered needs call registered (events ++ Cancelled ∷ []) left.0 left.1)
             | inr more ↦ rw (same, more) left
           ]
       | inr differs ↦ rw (differs, append-nil events) h

@@ -5,14 +5,14 @@ use Rattle.saa_core_spec.proofs.Counts.{same_number}
 use Rattle.saa_core_words.specs.declared.word.Word.{Word}
 use Rattle.saa_core_words.specs.Words.{count_bits, word_number}
 use Rattle.saa_word_steps.specs.declared.place.Place.{Place}
-use Rattle.saa_word_steps.specs.declared.place.Back.{Back}
-use Rattle.saa_word_steps.specs.declared.place.Afterwards.TheVariants.{Ends}
+use Rattle.saa_word_steps.specs.declared.place.AfterWalk.{AfterWalk}
+use Rattle.saa_word_steps.specs.declared.place.AfterShow.TheVariants.{Ends}
 use Rattle.saa_word_steps.specs.declared.place.Stage.{Stage}
-use Rattle.saa_word_steps.specs.declared.place.Stage.TheVariants.{Close, GoRound, ShowLoad}
+use Rattle.saa_word_steps.specs.declared.place.Stage.TheVariants.{Close, Retry, ShowLoad}
 use Rattle.saa_word_steps.specs.Needs.{Needs, AreNeeds}
 use Rattle.saa_word_steps.specs.AbstractState.{AbstractState, IsFront, IsSettledAt, is_empty, is_in, takes_of}
 use Rattle.saa_word_steps.specs.Steps.{IsRanged, settled_word}
-use Rattle.saa_word_proofs.specs.Refinement.{newest, is_holder, takes_back, IsAlone, IsShowing, Work, IsHolding, Refines}
+use Rattle.saa_word_proofs.specs.Refinement.{newest, is_holder, takes_back, IsLocallyTrue, IsShowing, Work, IsHolding, Invariant}
 use Rattle.saa_word_proofs.specs.Rows.{line_of, main_of, updated}
 use Rattle.saa_word_proofs.specs.StepRefinement.{StepRefines}
 use Rattle.saa_word_proofs.proofs.RefinementLemmas.Rows.{main-found, count-small, tail-small, apart-at, moved, loaded}
@@ -23,15 +23,15 @@ use Rattle.saa_word_proofs.proofs.RefinementLemmas.Ending.{end_stage, ended, end
 
 -- the exchange succeeds
 closed-step : (needs : Needs) → AreNeeds needs → (places : ℕ) (row : ℕ → ℕ) (standing : ℕ → Place) (state : AbstractState) (me : ℕ)
-    → (s : Refines needs places row standing state)
+    → (s : Invariant needs places row standing state)
     → (seen : Word) (count top : ℕ) → row 0 == word_number count_bits seen ≡ true
-    → s.holder ≡ me + 1 → IsRanged needs (Close seen count top) → IsAlone needs (standing me).registration (standing me).back (Close seen count top)
+    → s.holder ≡ me + 1 → IsRanged needs (Close seen count top) → IsLocallyTrue needs (standing me).registration (standing me).back (Close seen count top)
     → s.owed me ≡ []
     → (takes_back (standing me).back ≡ true → is_in me state.line ≡ false)
     → IsHolding needs (line_of row) me state.count state.line s.cut (Close seen count top)
     → StepRefines needs places row standing state me (Close seen count top)
 closed-step needs lawful places row standing state me s seen count top same mine ranged alone none apart holding =
-    let back : Back = (standing me).back in
+    let back : AfterWalk = (standing me).back in
     let work : Work state.count state.line seen = holding.0 in
     let rest : List (ℕ × ℕ) = work.behind ++ work.joined in
     let found : main_of row ≡ seen = main-found (row 0) seen ranged.0 alone.0 same in
@@ -76,9 +76,9 @@ closed-step needs lawful places row standing state me s seen count top same mine
 
 -- the exchange fails: another word stands there
 missed-step : (needs : Needs) (places : ℕ) (row : ℕ → ℕ) (standing : ℕ → Place) (state : AbstractState) (me : ℕ)
-    → (s : Refines needs places row standing state)
+    → (s : Invariant needs places row standing state)
     → (seen : Word) (count top : ℕ) → (standing me).stage ≡ Close seen count top → row 0 == word_number count_bits seen ≡ false
-    → s.holder ≡ me + 1 → IsRanged needs (Close seen count top) → IsAlone needs (standing me).registration (standing me).back (Close seen count top)
+    → s.holder ≡ me + 1 → IsRanged needs (Close seen count top) → IsLocallyTrue needs (standing me).registration (standing me).back (Close seen count top)
     → s.owed me ≡ []
     → (takes_back (standing me).back ≡ true → is_in me state.line ≡ false)
     → IsHolding needs (line_of row) me state.count state.line s.cut (Close seen count top)
@@ -122,8 +122,8 @@ missed-step needs places row standing state me s seen count top at differs mine 
                 ))))
             | inr changed ↦
                 rw (differs, changed)
-                (loaded needs places row (updated standing me (record (standing me) { stage = GoRound seen count top })) state 0
-                (moved needs places row standing state me s (record (standing me) { stage = GoRound seen count top }) (λ out. refl) refl
+                (loaded needs places row (updated standing me (record (standing me) { stage = Retry seen count top })) state 0
+                (moved needs places row standing state me s (record (standing me) { stage = Retry seen count top }) (λ out. refl) refl
                 ranged alone.1 apart tt none (ap is_holder (sym at))
                 (λ is. (work, holding.1, holding.2, holding.3, holding.4))))
           ];
@@ -131,12 +131,12 @@ missed-step needs places row standing state me s seen count top at differs mine 
 
 -- A holder that closes the line publishes what it granted, or goes on with the word that it found
 pub step-Close : (needs : Needs) → AreNeeds needs → needs.top < 2 ^ count_bits → (places : ℕ) (row : ℕ → ℕ) (standing : ℕ → Place) (state : AbstractState) (me : ℕ)
-    → places < 65536 → (s : Refines needs places row standing state)
+    → places < 65536 → (s : Invariant needs places row standing state)
     → (seen : Word) (count top : ℕ) → (standing me).stage ≡ Close seen count top → StepRefines needs places row standing state me (Close seen count top)
 step-Close needs lawful wide places row standing state me room s seen count top at =
     let mine : s.holder ≡ me + 1 = flag-held needs places row standing state me s (ap is_holder at) in
     let ranged = subst (λ (stage : Stage). IsRanged needs stage) at (s.stages.ranged me) in
-    let alone = subst (λ (stage : Stage). IsAlone needs (standing me).registration (standing me).back stage) at (s.stages.alone me) in
+    let alone = subst (λ (stage : Stage). IsLocallyTrue needs (standing me).registration (standing me).back stage) at (s.stages.alone me) in
     let none = subst (λ (stage : Stage). IsShowing (s.owed me) (s.answer_value me) stage) at (s.stages.showing me) in
     let apart = apart-at needs places row standing state me s (Close seen count top) at in
     let holding = flag-knows needs places row standing state me s (Close seen count top) at refl in

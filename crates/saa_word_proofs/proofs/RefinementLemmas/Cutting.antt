@@ -9,11 +9,11 @@ use Rattle.saa_core_words.specs.Words.{count_bits, line_number}
 use Rattle.saa_core_words.proofs.Words.{line_word-read}
 use Rattle.saa_word_steps.specs.declared.place.Place.{Place}
 use Rattle.saa_word_steps.specs.declared.place.Stage.{Stage}
-use Rattle.saa_word_steps.specs.declared.place.Stage.TheVariants.{CutToClose, CutToGoRound, Close, GoRound}
+use Rattle.saa_word_steps.specs.declared.place.Stage.TheVariants.{CutToClose, CutForRetry, Close, Retry}
 use Rattle.saa_word_steps.specs.Needs.{Needs, AreNeeds, fits_count}
 use Rattle.saa_word_steps.specs.AbstractState.{AbstractState, IsSettledAt, is_in}
 use Rattle.saa_word_steps.specs.Steps.{IsRanged}
-use Rattle.saa_word_proofs.specs.Refinement.{joins_line, is_holder, gives_up, IsAlone, IsOwn, IsShowing, Work, IsAt, IsHolding, IsLine, AreSeats, Refines}
+use Rattle.saa_word_proofs.specs.Refinement.{joins_line, is_holder, gives_up, IsLocallyTrue, IsOwn, IsShowing, Work, IsAt, IsHolding, IsLine, AreSeats, Invariant}
 use Rattle.saa_word_proofs.specs.Rows.{IsBehind, line_of, updated}
 use Rattle.saa_word_proofs.specs.StepRefinement.{StepRefines}
 use Rattle.saa_word_proofs.proofs.RefinementLemmas.Lists.{behind-frame, behind-front, behind-rest}
@@ -59,14 +59,14 @@ cut-line words new line front rest asker parts linked once request older others 
     kept place apart = (ap (λ (w : LineWord). w.request) (others place apart), ap (λ (w : LineWord). w.older) (others place apart))
 
 -- What both cuts leave, for any stage that the holder goes on at: the front is cut off
-cut : (needs : Needs) (places : ℕ) (row : ℕ → ℕ) (standing : ℕ → Place) (state : AbstractState) (me : ℕ) (s : Refines needs places row standing state)
+cut : (needs : Needs) (places : ℕ) (row : ℕ → ℕ) (standing : ℕ → Place) (state : AbstractState) (me : ℕ) (s : Invariant needs places row standing state)
     (seen : Word) (work : Work state.count state.line seen) (current : ℕ) (line : LineWord) (next : Stage)
     → joins_line next ≡ false → is_holder (standing me).stage ≡ true → s.cut ≡ [] → IsAt (line_of row) work.behind current → line ≡ line_of row (pred current)
-    → IsRanged needs next → IsAlone needs (standing me).registration (standing me).back next
+    → IsRanged needs next → IsLocallyTrue needs (standing me).registration (standing me).back next
     → (gives_up (standing me).back next ≡ true → is_in me state.line ≡ false) → ((word : LineWord) → IsOwn word next) → IsShowing (s.owed me) (s.answer_value me) next
     → is_holder next ≡ true
     → (IsLooked (line_of row) state.count state.line seen work current → (new : ℕ → LineWord) → IsHolding needs new me state.count state.line work.front next)
-    → Refines needs places (updated row current (line_number (record line { older = 0 }))) (updated standing me (record (standing me) { stage = next })) state
+    → Invariant needs places (updated row current (line_number (record line { older = 0 }))) (updated standing me (record (standing me) { stage = next })) state
 cut needs places row standing state me s seen work current line next never holds none at word ranged alone apart own showing holder holding =
     let flag = flag-held needs places row standing state me s holds in
     let there = oldest-stands work.behind current at.1 at.0 in
@@ -90,7 +90,7 @@ cut needs places row standing state me s seen work current line next never holds
     ∙ ap (λ (w : LineWord). w.request) word ∙ ap (λ (n : ℕ). (line_of row n).request) place)
     (ap (λ (w : LineWord). w.older) written_there)
     (λ other apart. line-other row (pred current) number other (λ is. apart (is ∙ place))) in
-    subst (λ (link : ℕ). Refines needs places (updated row link number) (updated standing me (record (standing me) { stage = next })) state) (sym there.1)
+    subst (λ (link : ℕ). Invariant needs places (updated row link number) (updated standing me (record (standing me) { stage = next })) state) (sym there.1)
     (relinked needs places row standing state me s next (pred current) number work.front (look.asker ∷ (look.rest ++ work.joined)) (λ out. never) flag waits line_is
     ranged alone apart (own (new me)) showing holder (holding look new))
 
@@ -103,7 +103,7 @@ cut-inside places row standing state seen work current seats at =
 
 -- The cut before the line is closed: the oldest waiter that stays does not fit
 pub step-CutToClose : (needs : Needs) → AreNeeds needs → needs.top < 2 ^ count_bits → (places : ℕ) (row : ℕ → ℕ) (standing : ℕ → Place) (state : AbstractState) (me : ℕ)
-    → places < 65536 → (s : Refines needs places row standing state)
+    → places < 65536 → (s : Invariant needs places row standing state)
     → (seen : Word) (current count : ℕ) (line : LineWord) → (standing me).stage ≡ CutToClose seen current count line
     → StepRefines needs places row standing state me (CutToClose seen current count line)
 step-CutToClose needs lawful wide places row standing state me room s seen current count line at =
@@ -119,7 +119,7 @@ step-CutToClose needs lawful wide places row standing state me room s seen curre
           knows.1 knows.3 knows.4
           (subst (λ stage. IsRanged needs stage) at (s.stages.ranged me)) (
             tail-room places standing state seen knows.0 s.seats room knows.3.1,
-            subst (λ stage. IsAlone needs (standing me).registration (standing me).back stage) at (s.stages.alone me),
+            subst (λ stage. IsLocallyTrue needs (standing me).registration (standing me).back stage) at (s.stages.alone me),
           )
           (apart-at needs places row standing state me s (CutToClose seen current count line) at) (λ word. tt)
           (subst (λ stage. IsShowing (s.owed me) (s.answer_value me) stage) at (s.stages.showing me)) refl
@@ -135,12 +135,12 @@ step-CutToClose needs lawful wide places row standing state me room s seen curre
     }
 
 -- The cut before the holder walks anew: the line could not be emptied, and its last waits on
-pub step-CutToGoRound : (needs : Needs) → AreNeeds needs → needs.top < 2 ^ count_bits → (places : ℕ) (row : ℕ → ℕ) (standing : ℕ → Place) (state : AbstractState) (me : ℕ)
-    → places < 65536 → (s : Refines needs places row standing state)
-    → (seen : Word) (current count : ℕ) (line : LineWord) → (standing me).stage ≡ CutToGoRound seen current count line
-    → StepRefines needs places row standing state me (CutToGoRound seen current count line)
-step-CutToGoRound needs lawful wide places row standing state me room s seen current count line at =
-    let knows = flag-knows needs places row standing state me s (CutToGoRound seen current count line) at refl in
+pub step-CutForRetry : (needs : Needs) → AreNeeds needs → needs.top < 2 ^ count_bits → (places : ℕ) (row : ℕ → ℕ) (standing : ℕ → Place) (state : AbstractState) (me : ℕ)
+    → places < 65536 → (s : Invariant needs places row standing state)
+    → (seen : Word) (current count : ℕ) (line : LineWord) → (standing me).stage ≡ CutForRetry seen current count line
+    → StepRefines needs places row standing state me (CutForRetry seen current count line)
+step-CutForRetry needs lawful wide places row standing state me room s seen current count line at =
+    let knows = flag-knows needs places row standing state me s (CutForRetry seen current count line) at refl in
     record {
       events = [];
       last = state;
@@ -148,11 +148,11 @@ step-CutToGoRound needs lawful wide places row standing state me room s seen cur
       names = refl;
       calm = λ semaphore. refl;
       inside = cut-inside places row standing state seen knows.0 current s.seats knows.3;
-      stands = cut needs places row standing state me s seen knows.0 current line (GoRound seen count line.older) refl (ap is_holder at)
+      stands = cut needs places row standing state me s seen knows.0 current line (Retry seen count line.older) refl (ap is_holder at)
           knows.1 knows.3 knows.4
           (subst (λ stage. IsRanged needs stage) at (s.stages.ranged me))
-          (subst (λ stage. IsAlone needs (standing me).registration (standing me).back stage) at (s.stages.alone me))
-          (apart-at needs places row standing state me s (CutToGoRound seen current count line) at) (λ word. tt)
+          (subst (λ stage. IsLocallyTrue needs (standing me).registration (standing me).back stage) at (s.stages.alone me))
+          (apart-at needs places row standing state me s (CutForRetry seen current count line) at) (λ word. tt)
           (subst (λ stage. IsShowing (s.owed me) (s.answer_value me) stage) at (s.stages.showing me)) refl
           (λ look new. (knows.0, refl, knows.2, ap (λ (w : LineWord). w.older) knows.4 ∙ look.older, knows.3.1));
     }

@@ -7,13 +7,13 @@ use Rattle.saa_core_words.specs.declared.line_word.LineWord.{LineWord}
 use Rattle.saa_core_words.specs.Words.{count_bits, word_number}
 use Rattle.saa_core_spec.specs.Object.{times}
 use Rattle.saa_word_steps.specs.declared.place.Place.{Place}
-use Rattle.saa_word_steps.specs.declared.place.Afterwards.TheVariants.{Ends}
+use Rattle.saa_word_steps.specs.declared.place.AfterShow.TheVariants.{Ends}
 use Rattle.saa_word_steps.specs.declared.place.Stage.{Stage}
-use Rattle.saa_word_steps.specs.declared.place.Stage.TheVariants.{CutToGoRound, Empty, GoRound, ShowLoad}
+use Rattle.saa_word_steps.specs.declared.place.Stage.TheVariants.{CutForRetry, Empty, Retry, ShowLoad}
 use Rattle.saa_word_steps.specs.Needs.{Needs, AreNeeds, fits_count}
 use Rattle.saa_word_steps.specs.AbstractState.{AbstractState, IsFront, is_empty, is_in, takes_of}
 use Rattle.saa_word_steps.specs.Steps.{IsRanged, settled_word}
-use Rattle.saa_word_proofs.specs.Refinement.{newest, oldest, is_holder, gives_up, IsAlone, IsShowing, Work, IsHolding, Refines}
+use Rattle.saa_word_proofs.specs.Refinement.{newest, oldest, is_holder, gives_up, IsLocallyTrue, IsShowing, Work, IsHolding, Invariant}
 use Rattle.saa_word_proofs.specs.Rows.{IsBehind, line_of, main_of, updated}
 use Rattle.saa_word_proofs.specs.StepRefinement.{StepRefines}
 use Rattle.saa_word_proofs.proofs.RefinementLemmas.Lists.{newest-in, newest-last, empty-nil, behind-rest, front-append, takes-append}
@@ -58,10 +58,10 @@ older-first words older (asker ∷ rest) link some first linked =
 
 -- the exchange succeeds
 emptied-step : (needs : Needs) → AreNeeds needs → (places : ℕ) (row : ℕ → ℕ) (standing : ℕ → Place) (state : AbstractState) (me : ℕ)
-    → (s : Refines needs places row standing state)
+    → (s : Invariant needs places row standing state)
     → (seen : Word) (current count : ℕ) (word : LineWord) → row 0 == word_number count_bits seen ≡ true
     → s.holder ≡ me + 1 → IsRanged needs (Empty seen current count word)
-    → IsAlone needs (standing me).registration (standing me).back (Empty seen current count word)
+    → IsLocallyTrue needs (standing me).registration (standing me).back (Empty seen current count word)
     → (gives_up (standing me).back (Empty seen current count word) ≡ true → is_in me state.line ≡ false) → s.owed me ≡ []
     → IsHolding needs (line_of row) me state.count state.line s.cut (Empty seen current count word)
     → StepRefines needs places row standing state me (Empty seen current count word)
@@ -116,11 +116,11 @@ emptied-step needs lawful places row standing state me s seen current count word
 
 -- the exchange fails: another word stands there, and all but the last go round
 missed-step : (needs : Needs) (places : ℕ) (row : ℕ → ℕ) (standing : ℕ → Place) (state : AbstractState) (me : ℕ)
-    → (s : Refines needs places row standing state)
+    → (s : Invariant needs places row standing state)
     → (seen : Word) (current count : ℕ) (word : LineWord) → (standing me).stage ≡ Empty seen current count word
     → row 0 == word_number count_bits seen ≡ false
     → s.holder ≡ me + 1 → IsRanged needs (Empty seen current count word)
-    → IsAlone needs (standing me).registration (standing me).back (Empty seen current count word)
+    → IsLocallyTrue needs (standing me).registration (standing me).back (Empty seen current count word)
     → (gives_up (standing me).back (Empty seen current count word) ≡ true → is_in me state.line ≡ false) → s.owed me ≡ []
     → IsHolding needs (line_of row) me state.count state.line s.cut (Empty seen current count word)
     → StepRefines needs places row standing state me (Empty seen current count word)
@@ -150,14 +150,14 @@ missed-step needs places row standing state me s seen current count word at diff
             | inl only ↦
                 let front : work.front ≡ [] = front-none work.front word.older older only in
                 rw (differs, only)
-                (loaded needs places row (updated standing me (record (standing me) { stage = GoRound seen fewer 0 })) state 0
-                (moved needs places row standing state me s (record (standing me) { stage = GoRound seen fewer 0 }) (λ out. refl) refl
+                (loaded needs places row (updated standing me (record (standing me) { stage = Retry seen fewer 0 })) state 0
+                (moved needs places row standing state me s (record (standing me) { stage = Retry seen fewer 0 }) (λ out. refl) refl
                 (ranged.0, small) alone.1 apart tt none (ap is_holder (sym at))
                 (λ is. (work, holding.1 ∙ sym front, (holding.2, left), sym (ap (λ (l : List (ℕ × ℕ)). newest 0 l) front), holding.3.1))))
             | inr others ↦
                 rw (differs, others)
-                (loaded needs places row (updated standing me (record (standing me) { stage = CutToGoRound seen current fewer word })) state 0
-                (moved needs places row standing state me s (record (standing me) { stage = CutToGoRound seen current fewer word }) (λ out. refl) refl
+                (loaded needs places row (updated standing me (record (standing me) { stage = CutForRetry seen current fewer word })) state 0
+                (moved needs places row standing state me s (record (standing me) { stage = CutForRetry seen current fewer word }) (λ out. refl) refl
                 (ranged.0, small) alone.1 apart tt none (ap is_holder (sym at))
                 (λ is. (work, holding.1, (holding.2, left), holding.3, holding.4))))
           ];
@@ -165,13 +165,13 @@ missed-step needs places row standing state me s seen current count word at diff
 
 -- Where all fit, the line is emptied; else all but the last of them go round
 pub step-Empty : (needs : Needs) → AreNeeds needs → needs.top < 2 ^ count_bits → (places : ℕ) (row : ℕ → ℕ) (standing : ℕ → Place) (state : AbstractState) (me : ℕ)
-    → places < 65536 → (s : Refines needs places row standing state)
+    → places < 65536 → (s : Invariant needs places row standing state)
     → (seen : Word) (current count : ℕ) (word : LineWord) → (standing me).stage ≡ Empty seen current count word
     → StepRefines needs places row standing state me (Empty seen current count word)
 step-Empty needs lawful wide places row standing state me room s seen current count word at =
     let mine : s.holder ≡ me + 1 = flag-held needs places row standing state me s (ap is_holder at) in
     let ranged = subst (λ (stage : Stage). IsRanged needs stage) at (s.stages.ranged me) in
-    let alone = subst (λ (stage : Stage). IsAlone needs (standing me).registration (standing me).back stage) at (s.stages.alone me) in
+    let alone = subst (λ (stage : Stage). IsLocallyTrue needs (standing me).registration (standing me).back stage) at (s.stages.alone me) in
     let apart = apart-at needs places row standing state me s (Empty seen current count word) at in
     let none = subst (λ (stage : Stage). IsShowing (s.owed me) (s.answer_value me) stage) at (s.stages.showing me) in
     let holding = subst (λ (stage : Stage). IsHolding needs (line_of row) me state.count state.line s.cut stage) at (s.stages.holding me mine) in

@@ -7,15 +7,15 @@ use Rattle.saa_core_words.specs.declared.line_word.LineWord.{LineWord}
 use Rattle.saa_core_words.specs.Words.{count_bits, word_number}
 use Rattle.saa_word_steps.specs.declared.place.Place.{Place}
 use Rattle.saa_word_steps.specs.declared.place.Registration.{Registration}
-use Rattle.saa_word_steps.specs.declared.place.Back.{Back}
-use Rattle.saa_word_steps.specs.declared.place.Back.TheVariants.{Tells, Ends, Takes}
+use Rattle.saa_word_steps.specs.declared.place.AfterWalk.{AfterWalk}
+use Rattle.saa_word_steps.specs.declared.place.AfterWalk.TheVariants.{Tells, Ends, Takes}
 use Rattle.saa_word_steps.specs.declared.place.Stage.{Stage}
 use Rattle.saa_word_steps.specs.declared.place.Stage.TheVariants.{FlagLoad, FlagExchange, LookLoad}
 use Rattle.saa_word_steps.specs.declared.place.Next.TheVariants.{Waits}
 use Rattle.saa_word_steps.specs.Needs.{Needs, AreNeeds}
 use Rattle.saa_word_steps.specs.AbstractState.{AbstractState, is_empty, is_in}
 use Rattle.saa_word_steps.specs.Steps.{IsRanged, flagged_word, going, finished, flagging, no_line}
-use Rattle.saa_word_proofs.specs.Refinement.{newest, is_holder, IsReturning, IsLeaving, IsAlone, IsShowing, IsLine, AreDebts, AreStages, Refines}
+use Rattle.saa_word_proofs.specs.Refinement.{newest, is_holder, IsReturning, IsLeaving, IsLocallyTrue, IsShowing, IsLine, AreDebts, AreStages, Invariant}
 use Rattle.saa_word_proofs.specs.Rows.{line_of, main_of, updated}
 use Rattle.saa_word_proofs.specs.StepRefinement.{StepRefines}
 use Rattle.saa_word_proofs.proofs.RefinementLemmas.Lists.{updated-same, newest-empty, empty-nil}
@@ -26,14 +26,14 @@ use Rattle.saa_word_proofs.proofs.RefinementLemmas.Outcomes.{Outcome, not-holder
 use Rattle.saa_word_proofs.proofs.RefinementLemmas.Ending.{end_stage, ended, ended-ranged, ended-alone, ended-own, ended-showing, ended-holder}
 
 -- who gives its registration up is returning
-pub returning-leaving : (registration : Registration) (back : Back) → IsLeaving registration back → IsReturning registration back
+pub returning-leaving : (registration : Registration) (back : AfterWalk) → IsLeaving registration back → IsReturning registration back
 returning-leaving registration Tells leaving = absurd leaving
 returning-leaving registration Ends leaving = absurd leaving
 returning-leaving registration (Takes request) leaving = leaving
 
 -- A cancel that is decided by the main word as it stands: by its flag, and by whether nobody waits
 flag-outcome : (needs : Needs) (places : ℕ) (row : ℕ → ℕ) (standing : ℕ → Place) (state : AbstractState) (me : ℕ)
-    → me < places → (s : Refines needs places row standing state) → is_holder (standing me).stage ≡ false → s.owed me ≡ []
+    → me < places → (s : Invariant needs places row standing state) → is_holder (standing me).stage ≡ false → s.owed me ≡ []
     → IsLeaving (standing me).registration (standing me).back
     → (flagged empty : Bool) → (main_of row).is_flagged ≡ flagged → ((main_of row).tail == 0) ≡ empty
     → Outcome needs places row standing state me
@@ -44,10 +44,10 @@ flag-outcome needs places row standing state me here s none nothing leaving true
   run = refl;
   names = refl;
   calm = λ semaphore. refl;
-  stands = subst (λ (p : ℕ → Place). Refines needs places row p state) (sym (updated-same standing me (standing me) refl)) s;
+  stands = subst (λ (p : ℕ → Place). Invariant needs places row p state) (sym (updated-same standing me (standing me) refl)) s;
 }
 flag-outcome needs places row standing state me here s none nothing leaving false true clear nobody =
-    let back : Back = (standing me).back in
+    let back : AfterWalk = (standing me).back in
     let registration : Registration = (standing me).registration in
     let empty : state.line ≡ [] = empty-nil state.line (sym (newest-empty state.line) ∙ ap (λ (n : ℕ). n == 0) (sym s.main.tail) ∙ nobody) in
     record {
@@ -56,7 +56,7 @@ flag-outcome needs places row standing state me here s none nothing leaving fals
       run = refl;
       names = refl;
       calm = λ semaphore. refl;
-      stands = subst (λ (p : Place). Refines needs places row (updated standing me p) state) (sym (ended (standing me) back))
+      stands = subst (λ (p : Place). Invariant needs places row (updated standing me p) state) (sym (ended (standing me) back))
           (moved needs places row standing state me s (record (standing me) { stage = end_stage back }) (λ out. absurd (omega (arith, out, here))) refl
           (ended-ranged needs back) (ended-alone needs registration back (returning-leaving registration back leaving))
           (λ gives. ap (is_in me) empty) (ended-own (line_of row me) back) (ended-showing (s.owed me) (s.answer_value me) back nothing)
@@ -75,7 +75,7 @@ flag-outcome needs places row standing state me here s none nothing leaving fals
 
 -- the two tests are those of the main word
 flagging-outcome : (needs : Needs) (places : ℕ) (row : ℕ → ℕ) (standing : ℕ → Place) (state : AbstractState) (me : ℕ)
-    → me < places → (s : Refines needs places row standing state) → is_holder (standing me).stage ≡ false → s.owed me ≡ []
+    → me < places → (s : Invariant needs places row standing state) → is_holder (standing me).stage ≡ false → s.owed me ≡ []
     → IsLeaving (standing me).registration (standing me).back
     → Outcome needs places row standing state me (flagging (standing me) (main_of row)) []
 flagging-outcome needs places row standing state me here s none nothing leaving =
@@ -83,11 +83,11 @@ flagging-outcome needs places row standing state me here s none nothing leaving 
 
 -- The main word is loaded: the cancel waits, is done with the line, or is to set the flag
 pub step-FlagLoad : (needs : Needs) → AreNeeds needs → needs.top < 2 ^ count_bits → (places : ℕ) (row : ℕ → ℕ) (standing : ℕ → Place) (state : AbstractState) (me : ℕ)
-    → places < 65536 → me < places → (s : Refines needs places row standing state)
+    → places < 65536 → me < places → (s : Invariant needs places row standing state)
     → (standing me).stage ≡ FlagLoad → StepRefines needs places row standing state me FlagLoad
 step-FlagLoad needs lawful wide places row standing state me room here s at =
     let leaving : IsLeaving (standing me).registration (standing me).back =
-    subst (λ stage. IsAlone needs (standing me).registration (standing me).back stage) at (s.stages.alone me) in
+    subst (λ stage. IsLocallyTrue needs (standing me).registration (standing me).back stage) at (s.stages.alone me) in
     let out = flagging-outcome needs places row standing state me here s (ap is_holder at)
     (subst (λ stage. IsShowing (s.owed me) (s.answer_value me) stage) at (s.stages.showing me)) leaving in
     only-looked needs places row standing state me FlagLoad out refl refl refl refl
@@ -109,9 +109,9 @@ apart-holders holder me other nobody apart =
 
 -- The flag is set where somebody waits and nobody holds it: this place holds it, and looks for itself from the tail
 flag-set : (needs : Needs) (places : ℕ) (row : ℕ → ℕ) (standing : ℕ → Place) (state : AbstractState) (me : ℕ)
-    → me < places → (s : Refines needs places row standing state) → s.owed me ≡ [] → IsLeaving (standing me).registration (standing me).back
+    → me < places → (s : Invariant needs places row standing state) → s.owed me ≡ [] → IsLeaving (standing me).registration (standing me).back
     → (seen : Word) → seen.count < 2 ^ count_bits → seen.tail < 65536 → (seen.tail == 0) ≡ false → seen.is_flagged ≡ false → main_of row ≡ seen
-    → Refines needs places (updated row 0 (word_number count_bits (flagged_word seen)))
+    → Invariant needs places (updated row 0 (word_number count_bits (flagged_word seen)))
     (updated standing me (record (standing me) { stage = LookLoad (flagged_word seen) seen.tail 0 no_line })) state
 flag-set needs places row standing state me here s nothing leaving seen small tail_small somebody clear is =
     let tail : seen.tail ≡ newest 0 state.line = ap (λ (w : Word). w.tail) (sym is) ∙ s.main.tail in
@@ -161,11 +161,11 @@ flag-set needs places row standing state me here s nothing leaving seen small ta
 
 -- The flag is set, or the main word is another one by now, and decides as where it is loaded
 pub step-FlagExchange : (needs : Needs) → AreNeeds needs → needs.top < 2 ^ count_bits → (places : ℕ) (row : ℕ → ℕ) (standing : ℕ → Place) (state : AbstractState) (me : ℕ)
-    → places < 65536 → me < places → (s : Refines needs places row standing state)
+    → places < 65536 → me < places → (s : Invariant needs places row standing state)
     → (seen : Word) → (standing me).stage ≡ FlagExchange seen → StepRefines needs places row standing state me (FlagExchange seen)
 step-FlagExchange needs lawful wide places row standing state me room here s seen at =
-    let alone : IsAlone needs (standing me).registration (standing me).back (FlagExchange seen) =
-    subst (λ stage. IsAlone needs (standing me).registration (standing me).back stage) at (s.stages.alone me) in
+    let alone : IsLocallyTrue needs (standing me).registration (standing me).back (FlagExchange seen) =
+    subst (λ stage. IsLocallyTrue needs (standing me).registration (standing me).back stage) at (s.stages.alone me) in
     let small : IsRanged needs (FlagExchange seen) = subst (λ stage. IsRanged needs stage) at (s.stages.ranged me) in
     let nothing : s.owed me ≡ [] = subst (λ stage. IsShowing (s.owed me) (s.answer_value me) stage) at (s.stages.showing me) in
     elim (cases_Bool (row 0 == word_number count_bits seen)) [

@@ -5,13 +5,13 @@ use Rattle.saa_core_spec.proofs.Counts.{number_same, same_number, times-append}
 use Rattle.saa_core_words.specs.declared.word.Word.{Word}
 use Rattle.saa_core_words.specs.declared.line_word.LineWord.{LineWord}
 use Rattle.saa_word_steps.specs.declared.place.Place.{Place}
-use Rattle.saa_word_steps.specs.declared.place.Afterwards.TheVariants.{Ends, Again}
+use Rattle.saa_word_steps.specs.declared.place.AfterShow.TheVariants.{Ends, Again}
 use Rattle.saa_word_steps.specs.declared.place.Stage.{Stage}
-use Rattle.saa_word_steps.specs.declared.place.Stage.TheVariants.{Quiet, ReadLoad, AskLoad, AskExchange, Prepare, Join, ReleaseLoad, ReleaseExchange, BackLoad, BackStore, Forward, CutToClose, CutToGoRound, Close, Empty, GoRound, ShowLoad, ShowStore, Take, FlagLoad, FlagExchange, LookLoad, LookStore, Unlink, DropTail, PoisonLoad, PoisonExchange, Clear}
+use Rattle.saa_word_steps.specs.declared.place.Stage.TheVariants.{Quiet, ReadLoad, AcquireLoad, AcquireExchange, Prepare, Join, ReleaseLoad, ReleaseExchange, BackLoad, BackStore, Forward, CutToClose, CutForRetry, Close, Empty, Retry, ShowLoad, ShowStore, Take, FlagLoad, FlagExchange, LookLoad, LookStore, Unlink, DropTail, PoisonLoad, PoisonExchange, Clear}
 use Rattle.saa_word_steps.specs.Needs.{Needs}
 use Rattle.saa_word_steps.specs.AbstractState.{is_empty, is_in}
 use Rattle.saa_word_steps.specs.Steps.{IsRanged}
-use Rattle.saa_word_proofs.specs.Refinement.{newest, oldest, is_holder, gives_up, IsAlone, IsOwn, IsPassed, IsShowing, Work, IsHolding, AreStages}
+use Rattle.saa_word_proofs.specs.Refinement.{newest, oldest, is_holder, gives_up, IsLocallyTrue, IsOwn, IsPassed, IsShowing, Work, IsHolding, AreStages}
 use Rattle.saa_word_proofs.specs.Rows.{updated}
 use Rattle.saa_word_proofs.proofs.RefinementLemmas.Lists.{each-updated, in-append, newest-in, newest-some, ahead-frame}
 
@@ -63,8 +63,8 @@ pub holding-frame : (needs : Needs) (words new : ℕ → LineWord) (me held now 
     → IsHolding needs words me held line cut stage → IsHolding needs new me now after cut stage
 holding-frame needs words new me held now line after more cut Quiet less grown none same h = h
 holding-frame needs words new me held now line after more cut (ReadLoad reading) less grown none same h = h
-holding-frame needs words new me held now line after more cut (AskLoad ask) less grown none same h = h
-holding-frame needs words new me held now line after more cut (AskExchange ask seen) less grown none same h = h
+holding-frame needs words new me held now line after more cut (AcquireLoad ask) less grown none same h = h
+holding-frame needs words new me held now line after more cut (AcquireExchange ask seen) less grown none same h = h
 holding-frame needs words new me held now line after more cut (Prepare request seen) less grown none same h = h
 holding-frame needs words new me held now line after more cut (Join request seen) less grown none same h = h
 holding-frame needs words new me held now line after more cut (ReleaseLoad given) less grown none same h = h
@@ -94,7 +94,7 @@ holding-frame needs words new me held now line after more cut (CutToClose seen c
   h.4 ∙ sym (same (pred current) (work-behind held line seen h.0 (pred current) (oldest-stands h.0.behind current h.3.1 h.3.0).0)),
   h.5,
 )
-holding-frame needs words new me held now line after more cut (CutToGoRound seen current count word) less grown none same h = (
+holding-frame needs words new me held now line after more cut (CutForRetry seen current count word) less grown none same h = (
   work-frame held now line after more seen less grown h.0,
   h.1,
   h.2,
@@ -113,7 +113,7 @@ holding-frame needs words new me held now line after more cut (Empty seen curren
   h.6,
   h.7,
 )
-holding-frame needs words new me held now line after more cut (GoRound seen count top) less grown none same h =
+holding-frame needs words new me held now line after more cut (Retry seen count top) less grown none same h =
     (work-frame held now line after more seen less grown h.0, h.1, h.2, h.3, h.4)
 holding-frame needs words new me held now line after more cut (ShowLoad current value Ends) less grown none same h = h
 holding-frame needs words new me held now line after more cut (ShowStore current next value Ends) less grown none same h = h
@@ -157,7 +157,7 @@ holding-frame needs words new me held now line after more cut Clear less grown n
 pub stages-next : (needs : Needs) (words new : ℕ → LineWord) (standing : ℕ → Place) (held now : ℕ) (line after cut off : List (ℕ × ℕ))
     (holder next : ℕ) (owed owing : ℕ → List (ℕ × ℕ)) (answer_value gives : ℕ → ℕ) (me : ℕ) (place : Place)
     → AreStages needs words standing held line cut holder owed answer_value
-    → IsRanged needs place.stage → IsAlone needs place.registration place.back place.stage
+    → IsRanged needs place.stage → IsLocallyTrue needs place.registration place.back place.stage
     → (gives_up place.back place.stage ≡ true → is_in me after ≡ false)
     → IsOwn (new me) place.stage → IsShowing (owing me) (gives me) place.stage
     → is_holder place.stage ≡ (next == me + 1)
@@ -172,7 +172,7 @@ pub stages-next : (needs : Needs) (words new : ℕ → LineWord) (standing : ℕ
 stages-next needs words new standing held now line after cut off holder next owed owing answer_value gives me place was ranged alone apart own showing one holding
     out owns shows values ones holds = record {
       ranged = each-updated (λ (n : ℕ) (p : Place). IsRanged needs p.stage) standing me place ranged (λ other differs. was.ranged other);
-      alone = each-updated (λ (n : ℕ) (p : Place). IsAlone needs p.registration p.back p.stage) standing me place alone (λ other differs. was.alone other);
+      alone = each-updated (λ (n : ℕ) (p : Place). IsLocallyTrue needs p.registration p.back p.stage) standing me place alone (λ other differs. was.alone other);
       apart = each-updated (λ (n : ℕ) (p : Place). gives_up p.back p.stage ≡ true → is_in n after ≡ false) standing me place apart
           (λ other differs gives. out other differs (was.apart other gives));
       own = each-updated (λ (n : ℕ) (p : Place). IsOwn (new n) p.stage) standing me place own owns;

@@ -4,12 +4,12 @@ use Rattle.std.proofs.lemmas.Bool.{cases_Bool}
 use Rattle.saa_core_words.specs.declared.word.Word.{Word}
 use Rattle.saa_core_words.specs.Words.{count_bits, word_of}
 use Rattle.saa_word_steps.specs.declared.place.Place.{Place}
-use Rattle.saa_word_steps.specs.declared.place.Afterwards.TheVariants.{Again}
+use Rattle.saa_word_steps.specs.declared.place.AfterShow.TheVariants.{Again}
 use Rattle.saa_word_steps.specs.declared.place.Stage.{Stage}
-use Rattle.saa_word_steps.specs.declared.place.Stage.TheVariants.{BackLoad, GoRound, ShowLoad}
+use Rattle.saa_word_steps.specs.declared.place.Stage.TheVariants.{BackLoad, Retry, ShowLoad}
 use Rattle.saa_word_steps.specs.Needs.{Needs, AreNeeds}
 use Rattle.saa_word_steps.specs.AbstractState.{AbstractState, IsFront, IsSettledAt, is_empty, takes_of}
-use Rattle.saa_word_proofs.specs.Refinement.{newest, is_holder, IsAlone, IsShowing, Work, IsHolding, IsMain, Refines}
+use Rattle.saa_word_proofs.specs.Refinement.{newest, is_holder, IsLocallyTrue, IsShowing, Work, IsHolding, IsMain, Invariant}
 use Rattle.saa_word_proofs.specs.Rows.{line_of}
 use Rattle.saa_word_proofs.specs.StepRefinement.{StepRefines}
 use Rattle.saa_word_proofs.proofs.RefinementLemmas.Lists.{front-lower}
@@ -64,10 +64,10 @@ raised-main needs lawful wide state me number holder more front rest calm was fi
     }
 
 -- A holder that retries adds what it granted to the count, shows the answers, and walks anew
-pub step-GoRound : (needs : Needs) → AreNeeds needs → needs.top < 2 ^ count_bits → (places : ℕ) (row : ℕ → ℕ) (standing : ℕ → Place) (state : AbstractState) (me : ℕ)
-    → places < 65536 → (s : Refines needs places row standing state)
-    → (seen : Word) (count top : ℕ) → (standing me).stage ≡ GoRound seen count top → StepRefines needs places row standing state me (GoRound seen count top)
-step-GoRound needs lawful wide places row standing state me room s seen count top at =
+pub step-Retry : (needs : Needs) → AreNeeds needs → needs.top < 2 ^ count_bits → (places : ℕ) (row : ℕ → ℕ) (standing : ℕ → Place) (state : AbstractState) (me : ℕ)
+    → places < 65536 → (s : Invariant needs places row standing state)
+    → (seen : Word) (count top : ℕ) → (standing me).stage ≡ Retry seen count top → StepRefines needs places row standing state me (Retry seen count top)
+step-Retry needs lawful wide places row standing state me room s seen count top at =
     let mine : s.holder ≡ me + 1 = flag-held needs places row standing state me s (ap is_holder at) in
     let none = subst (λ (stage : Stage). IsShowing (s.owed me) (s.answer_value me) stage) at (s.stages.showing me) in
     let holding = subst (λ (stage : Stage). IsHolding needs (line_of row) me state.count state.line s.cut stage) at (s.stages.holding me mine) in
@@ -85,8 +85,8 @@ step-GoRound needs lawful wide places row standing state me room s seen count to
     let grant = round-run needs state me work.front rest work.parts fits s.main.settled in
     let held : state.count + takes_of needs work.front ≤ now.count = omega (arith, main.count) in
     let tail : now.tail ≡ newest 0 (rest ++ []) = main.tail ∙ ap (λ (l : List (ℕ × ℕ)). newest 0 l) (sym (append-nil rest)) in
-    let alone = subst (λ (stage : Stage). IsAlone needs (standing me).registration (standing me).back stage) at (s.stages.alone me) in
-    let apart = apart-at needs places row standing state me s (GoRound seen count top) at in
+    let alone = subst (λ (stage : Stage). IsLocallyTrue needs (standing me).registration (standing me).back stage) at (s.stages.alone me) in
+    let apart = apart-at needs places row standing state me s (Retry seen count top) at in
     let holder : true ≡ (s.holder == me + 1) = sym (ap is_holder at) ∙ s.stages.one me in
     record {
       events = grant.events;

@@ -15,7 +15,7 @@ use Rattle.saa_word_steps.specs.declared.event.Event.{Event}
 use Rattle.saa_word_steps.specs.declared.event.Event.TheVariants.{Granted, Closed}
 use Rattle.saa_word_steps.specs.AbstractState.{AbstractState, IsEnabled, after_event, IsRun, IsFront, IsSettledAt, is_empty, is_in, takes_of, answered_with, granted_by, held_by}
 use Rattle.saa_word_steps.specs.Steps.{IsRanged, settled_word}
-use Rattle.saa_word_proofs.specs.Refinement.{joins_line, newest, is_holder, gives_up, IsAlone, IsOwn, IsShowing, IsHolding, IsMain, IsLine, AreSeats, AreDebts, Refines}
+use Rattle.saa_word_proofs.specs.Refinement.{joins_line, newest, is_holder, gives_up, IsLocallyTrue, IsOwn, IsShowing, IsHolding, IsMain, IsLine, AreSeats, AreDebts, Invariant}
 use Rattle.saa_word_proofs.specs.Rows.{IsBehind, line_of, updated}
 use Rattle.saa_word_proofs.specs.Registering.{is_slot}
 use Rattle.saa_word_proofs.specs.StepRefinement.{never_poisons}
@@ -303,16 +303,16 @@ out-of-rest place front rest line parts out =
     out-of-both false other h = h
 
 -- The holder grants a front by a write to the main word, and goes on at a stage
-pub granting : (needs : Needs) (places : ℕ) (row : ℕ → ℕ) (standing : ℕ → Place) (state : AbstractState) (me : ℕ) (s : Refines needs places row standing state)
+pub granting : (needs : Needs) (places : ℕ) (row : ℕ → ℕ) (standing : ℕ → Place) (state : AbstractState) (me : ℕ) (s : Invariant needs places row standing state)
     (number : ℕ) (stage : Stage) (front rest : List (ℕ × ℕ)) (next : ℕ) (unclosed : Bool)
     → (places ≤ me → joins_line stage ≡ false) → s.holder ≡ me + 1 → s.owed me ≡ [] → state.line ≡ front ++ rest → IsBehind (line_of row) 0 front → IsBehind (line_of row) 0 rest
     → IsMain needs number (granted needs state me front rest unclosed) next
-    → IsRanged needs stage → IsAlone needs (standing me).registration (standing me).back stage
+    → IsRanged needs stage → IsLocallyTrue needs (standing me).registration (standing me).back stage
     → (gives_up (standing me).back stage ≡ true → is_in me state.line ≡ false) → IsOwn (line_of row me) stage → IsShowing front 0 stage
     → is_holder stage ≡ (next == me + 1)
     → (next ≡ me + 1 → IsHolding needs (line_of row) me (state.count + takes_of needs front) rest [] stage)
     → ((other : ℕ) → (other ≡ me → ⊥) → (s.holder == other + 1) ≡ (next == other + 1))
-    → Refines needs places (updated row 0 number) (updated standing me (record (standing me) { stage = stage }))
+    → Invariant needs places (updated row 0 number) (updated standing me (record (standing me) { stage = stage }))
     (granted needs state me front rest unclosed)
 granting needs places row standing state me s number stage front rest next unclosed free mine none parts linked stays main ranged alone apart own showing
     holder holding others =

@@ -7,13 +7,13 @@ use Rattle.saa_core_words.specs.declared.line_word.LineWord.{LineWord}
 use Rattle.saa_core_words.specs.Words.{count_bits, word_number}
 use Rattle.saa_core_words.proofs.Words.{word-read}
 use Rattle.saa_word_steps.specs.declared.place.Place.{Place}
-use Rattle.saa_word_steps.specs.declared.place.Afterwards.TheVariants.{Ends, Again}
+use Rattle.saa_word_steps.specs.declared.place.AfterShow.TheVariants.{Ends, Again}
 use Rattle.saa_word_steps.specs.declared.place.Stage.{Stage}
-use Rattle.saa_word_steps.specs.declared.place.Stage.TheVariants.{Quiet, ReadLoad, AskLoad, AskExchange, Prepare, Join, ReleaseLoad, ReleaseExchange, BackLoad, BackStore, Forward, CutToClose, CutToGoRound, Close, Empty, GoRound, ShowLoad, ShowStore, Take, FlagLoad, FlagExchange, LookLoad, LookStore, Unlink, DropTail, PoisonLoad, PoisonExchange, Clear}
+use Rattle.saa_word_steps.specs.declared.place.Stage.TheVariants.{Quiet, ReadLoad, AcquireLoad, AcquireExchange, Prepare, Join, ReleaseLoad, ReleaseExchange, BackLoad, BackStore, Forward, CutToClose, CutForRetry, Close, Empty, Retry, ShowLoad, ShowStore, Take, FlagLoad, FlagExchange, LookLoad, LookStore, Unlink, DropTail, PoisonLoad, PoisonExchange, Clear}
 use Rattle.saa_word_steps.specs.Needs.{Needs}
 use Rattle.saa_word_steps.specs.AbstractState.{AbstractState, is_empty, IsSettledAt}
 use Rattle.saa_word_steps.specs.Steps.{IsSmall}
-use Rattle.saa_word_proofs.specs.Refinement.{newest, Work, IsHolding, IsMain, Refines}
+use Rattle.saa_word_proofs.specs.Refinement.{newest, Work, IsHolding, IsMain, Invariant}
 use Rattle.saa_word_proofs.specs.Rows.{line_of, updated}
 use Rattle.saa_word_proofs.proofs.RefinementLemmas.Rows.{word-whole, loaded}
 
@@ -37,8 +37,8 @@ pub holding-some : (needs : Needs) (words : ℕ → LineWord) (me held : ℕ) (l
     → IsHolding needs words me held line cut stage → is_empty line ≡ false
 holding-some needs words me held line cut Quiet h = absurd h
 holding-some needs words me held line cut (ReadLoad reading) h = absurd h
-holding-some needs words me held line cut (AskLoad ask) h = absurd h
-holding-some needs words me held line cut (AskExchange ask seen) h = absurd h
+holding-some needs words me held line cut (AcquireLoad ask) h = absurd h
+holding-some needs words me held line cut (AcquireExchange ask seen) h = absurd h
 holding-some needs words me held line cut (Prepare request seen) h = absurd h
 holding-some needs words me held line cut (Join request seen) h = absurd h
 holding-some needs words me held line cut (ReleaseLoad given) h = absurd h
@@ -47,10 +47,10 @@ holding-some needs words me held line cut (BackLoad seen current newer) h = fron
 holding-some needs words me held line cut (BackStore seen current newer word) h = front-waits held line seen h.0 h.2.1
 holding-some needs words me held line cut (Forward seen current count) h = behind-waits held line seen h.0 h.3.1
 holding-some needs words me held line cut (CutToClose seen current count word) h = behind-waits held line seen h.0 h.3.1
-holding-some needs words me held line cut (CutToGoRound seen current count word) h = behind-waits held line seen h.0 h.3.1
+holding-some needs words me held line cut (CutForRetry seen current count word) h = behind-waits held line seen h.0 h.3.1
 holding-some needs words me held line cut (Close seen count top) h = behind-waits held line seen h.0 h.4
 holding-some needs words me held line cut (Empty seen current count word) h = behind-waits held line seen h.0 h.3.1
-holding-some needs words me held line cut (GoRound seen count top) h = behind-waits held line seen h.0 h.4
+holding-some needs words me held line cut (Retry seen count top) h = behind-waits held line seen h.0 h.4
 holding-some needs words me held line cut (ShowLoad current value Ends) h = absurd h
 holding-some needs words me held line cut (ShowStore current next value Ends) h = absurd h
 holding-some needs words me held line cut (ShowLoad current value (Again seen)) h = behind-waits held line seen h.0 h.3
@@ -68,7 +68,7 @@ holding-some needs words me held line cut (PoisonExchange seen) h = absurd h
 holding-some needs words me held line cut Clear h = absurd h
 
 -- where nobody waits nobody holds the flag
-pub nobody-holds : (needs : Needs) (places : ℕ) (row : ℕ → ℕ) (standing : ℕ → Place) (state : AbstractState) (s : Refines needs places row standing state)
+pub nobody-holds : (needs : Needs) (places : ℕ) (row : ℕ → ℕ) (standing : ℕ → Place) (state : AbstractState) (s : Invariant needs places row standing state)
     → is_empty state.line ≡ true → s.holder == 0 ≡ true
 nobody-holds needs places row standing state s none =
     elim (cases_Bool (s.holder == 0)) [
@@ -100,7 +100,7 @@ main-now needs state holder word small tail_small count tail flag poison barren 
 
 -- an exchange that fails leaves the row
 pub failed : (needs : Needs) (places : ℕ) (row : ℕ → ℕ) (standing : ℕ → Place) (state : AbstractState) (old new : ℕ) → row 0 == old ≡ false
-    → Refines needs places row standing state → Refines needs places (updated row 0 (if row 0 == old then new else row 0)) standing state
+    → Invariant needs places row standing state → Invariant needs places (updated row 0 (if row 0 == old then new else row 0)) standing state
 failed needs places row standing state old new test s = rw test (loaded needs places row standing state 0 s)
 
 -- where somebody waits, or holds the flag, nothing is poisoned
@@ -113,7 +113,7 @@ calm-some needs number state holder main some =
       | inr calm ↦ calm
     ]
 
-pub calm-held : (needs : Needs) (places : ℕ) (row : ℕ → ℕ) (standing : ℕ → Place) (state : AbstractState) (me : ℕ) (s : Refines needs places row standing state)
+pub calm-held : (needs : Needs) (places : ℕ) (row : ℕ → ℕ) (standing : ℕ → Place) (state : AbstractState) (me : ℕ) (s : Invariant needs places row standing state)
     → s.holder ≡ me + 1 → state.poisoned ≡ false
 calm-held needs places row standing state me s held =
     calm-some needs (row 0) state s.holder s.main

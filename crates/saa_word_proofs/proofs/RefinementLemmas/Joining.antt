@@ -9,14 +9,14 @@ use Rattle.saa_core_words.specs.Words.{count_bits, word_number, line_number, lin
 use Rattle.saa_core_words.proofs.Words.{line_word-read}
 use Rattle.saa_word_steps.specs.declared.place.Place.{Place}
 use Rattle.saa_word_steps.specs.declared.place.Ask.{Ask}
-use Rattle.saa_word_steps.specs.declared.place.Registration.TheVariants.{Once, Slot}
-use Rattle.saa_word_steps.specs.declared.place.Stage.TheVariants.{Quiet, AskExchange, Prepare, Join}
+use Rattle.saa_word_steps.specs.declared.place.Registration.TheVariants.{AnsweredAtOnce, Queued}
+use Rattle.saa_word_steps.specs.declared.place.Stage.TheVariants.{Quiet, AcquireExchange, Prepare, Join}
 use Rattle.saa_word_steps.specs.Needs.{Needs, AreNeeds, fits_count}
-use Rattle.saa_word_steps.specs.declared.event.Event.TheVariants.{Got, Joined}
+use Rattle.saa_word_steps.specs.declared.event.Event.TheVariants.{Acquired, Joined}
 use Rattle.saa_word_steps.specs.AbstractState.{AbstractState, is_empty, is_in, held_by, must_wait, IsSettledAt}
 use Rattle.saa_word_steps.specs.Steps.{IsRanged, IsSmall}
 use Rattle.saa_word_steps.proofs.AbstractRuns.{joined-settled}
-use Rattle.saa_word_proofs.specs.Refinement.{joins_line, newest, is_holder, gives_up, IsAlone, IsOwn, IsShowing, waits_behind, IsMain, IsLine, AreSeats, AreDebts, AreStages, Refines}
+use Rattle.saa_word_proofs.specs.Refinement.{joins_line, newest, is_holder, gives_up, IsLocallyTrue, IsOwn, IsShowing, waits_behind, IsMain, IsLine, AreSeats, AreDebts, AreStages, Invariant}
 use Rattle.saa_word_proofs.specs.Rows.{line_of, main_of, updated}
 use Rattle.saa_word_proofs.specs.Registering.{is_slot}
 use Rattle.saa_word_proofs.specs.StepRefinement.{StepRefines}
@@ -29,11 +29,11 @@ use Rattle.saa_word_proofs.proofs.RefinementLemmas.Outcomes.{not-holder, answers
 
 -- Somebody is granted at once: the count is raised, and nobody waits
 raised : (needs : Needs) → AreNeeds needs → needs.top < 2 ^ count_bits → (places : ℕ) (row : ℕ → ℕ) (standing : ℕ → Place) (state : AbstractState) (me : ℕ)
-    → (s : Refines needs places row standing state) → is_holder (standing me).stage ≡ false → s.owed me ≡ []
+    → (s : Invariant needs places row standing state) → is_holder (standing me).stage ≡ false → s.owed me ≡ []
     → state.poisoned ≡ false → (request : ℕ) (seen : Word) → IsSmall seen → main_of row ≡ seen → seen.tail == 0 ≡ true
     → fits_count needs seen.count request ≡ true
     → (place : Place) → place.stage ≡ Quiet → is_slot place.registration ≡ is_slot (standing me).registration
-    → Refines needs places (updated row 0 (word_number count_bits (record seen { count = seen.count + needs.takes request }))) (updated standing me place)
+    → Invariant needs places (updated row 0 (word_number count_bits (record seen { count = seen.count + needs.takes request }))) (updated standing me place)
     (record state { count = state.count + needs.takes request })
 raised needs lawful wide places row standing state me s none nothing calm request seen small is alone fits place quiet same =
     let tail : seen.tail ≡ newest 0 state.line = ap (λ (w : Word). w.tail) (sym is) ∙ s.main.tail in
@@ -66,7 +66,7 @@ raised needs lawful wide places row standing state me s none nothing calm reques
           (sym (line-main row number))
           (stages-next needs (line_of row) (line_of row) standing state.count (state.count + needs.takes request) state.line state.line
           s.cut s.cut s.holder s.holder s.owed s.owed s.answer_value s.answer_value me place s.stages
-          (subst (λ stage. IsRanged needs stage) (sym quiet) tt) (subst (λ stage. IsAlone needs place.registration place.back stage) (sym quiet) tt)
+          (subst (λ stage. IsRanged needs stage) (sym quiet) tt) (subst (λ stage. IsLocallyTrue needs place.registration place.back stage) (sym quiet) tt)
           (λ gives. let wrong : true ≡ false = sym gives ∙ ap (gives_up place.back) quiet in absurd (cc))
           (subst (λ stage. IsOwn (line_of row me) stage) (sym quiet) tt) (subst (λ stage. IsShowing (s.owed me) (s.answer_value me) stage) (sym quiet) nothing)
           (ap is_holder quiet ∙ sym none ∙ s.stages.one me)
@@ -76,13 +76,13 @@ raised needs lawful wide places row standing state me s none nothing calm reques
     }
 
 -- a place raises the count, where the main word is as it saw it, and else is decided by the main word as it stands
-pub step-AskExchange : (needs : Needs) → AreNeeds needs → needs.top < 2 ^ count_bits → (places : ℕ) (row : ℕ → ℕ) (standing : ℕ → Place) (state : AbstractState) (me : ℕ)
-    → places < 65536 → (s : Refines needs places row standing state)
-    → (ask : Ask) (seen : Word) → (standing me).stage ≡ AskExchange ask seen → StepRefines needs places row standing state me (AskExchange ask seen)
-step-AskExchange needs lawful wide places row standing state me room s ask seen at =
-    let alone : IsAlone needs (standing me).registration (standing me).back (AskExchange ask seen) =
-    subst (λ stage. IsAlone needs (standing me).registration (standing me).back stage) at (s.stages.alone me) in
-    let ranged : IsRanged needs (AskExchange ask seen) = subst (λ stage. IsRanged needs stage) at (s.stages.ranged me) in
+pub step-AcquireExchange : (needs : Needs) → AreNeeds needs → needs.top < 2 ^ count_bits → (places : ℕ) (row : ℕ → ℕ) (standing : ℕ → Place) (state : AbstractState) (me : ℕ)
+    → places < 65536 → (s : Invariant needs places row standing state)
+    → (ask : Ask) (seen : Word) → (standing me).stage ≡ AcquireExchange ask seen → StepRefines needs places row standing state me (AcquireExchange ask seen)
+step-AcquireExchange needs lawful wide places row standing state me room s ask seen at =
+    let alone : IsLocallyTrue needs (standing me).registration (standing me).back (AcquireExchange ask seen) =
+    subst (λ stage. IsLocallyTrue needs (standing me).registration (standing me).back stage) at (s.stages.alone me) in
+    let ranged : IsRanged needs (AcquireExchange ask seen) = subst (λ stage. IsRanged needs stage) at (s.stages.ranged me) in
     let none : is_holder (standing me).stage ≡ false = ap is_holder at in
     let nothing : s.owed me ≡ [] = subst (λ stage. IsShowing (s.owed me) (s.answer_value me) stage) at (s.stages.showing me) in
     elim (cases_Bool (row 0 == word_number count_bits seen)) [
@@ -95,17 +95,17 @@ step-AskExchange needs lawful wide places row standing state me room s ask seen 
           ap (λ (n : ℕ). fits_count needs n ask.request) (sym s.main.count ∙ ap (λ (w : Word). w.count) is) ∙ ranged.1 in
           elim (cases_Bool ask.joins) [
             | inl joins ↦ record {
-              events = Got ask.request ∷ [];
+              events = Acquired ask.request ∷ [];
               last = record state { count = state.count + needs.takes ask.request };
               run = ((calm, tail, fits), refl);
               names = rw same refl;
               calm = λ semaphore. refl;
               inside = omega arith;
               stands = rw (same, joins) (raised needs lawful wide places row standing state me s none nothing calm ask.request seen ranged.0 is
-                  alone.2 ranged.1 (record (standing me) { registration = Once 0 ask.request; stage = Quiet }) refl (sym (alone.1 joins)));
+                  alone.2 ranged.1 (record (standing me) { registration = AnsweredAtOnce 0 ask.request; stage = Quiet }) refl (sym (alone.1 joins)));
             }
             | inr tries ↦ record {
-              events = Got ask.request ∷ [];
+              events = Acquired ask.request ∷ [];
               last = record state { count = state.count + needs.takes ask.request };
               run = ((calm, tail, fits), refl);
               names = rw same refl;
@@ -117,11 +117,11 @@ step-AskExchange needs lawful wide places row standing state me room s ask seen 
           ]
       | inr differs ↦
           let out = decided-outcome needs wide places row standing state me s none nothing ask (λ out. ap joins_line (sym at) ∙ s.seats.beyond me out) alone.0 alone.1 in
-          only-looked needs places row standing state me (AskExchange ask seen) out refl (rw differs refl) (rw differs refl) (rw differs refl)
+          only-looked needs places row standing state me (AcquireExchange ask seen) out refl (rw differs refl) (rw differs refl) (rw differs refl)
     ]
 
 -- a place that isn't registered in the line doesn't stand in it, and nobody owes it an answer
-pub outside : (needs : Needs) (places : ℕ) (row : ℕ → ℕ) (standing : ℕ → Place) (state : AbstractState) (me : ℕ) (s : Refines needs places row standing state)
+pub outside : (needs : Needs) (places : ℕ) (row : ℕ → ℕ) (standing : ℕ → Place) (state : AbstractState) (me : ℕ) (s : Invariant needs places row standing state)
     → is_slot (standing me).registration ≡ false → (times me state.line ≡ 0) × (is_some (state.due me) ≡ false) × (is_some (state.shown me) ≡ false)
 outside needs places row standing state me s idle =
     let held : held_by me state ≡ 0 = s.seats.held me ∙ ap one_if idle in
@@ -133,11 +133,11 @@ outside needs places row standing state me s idle =
 
 -- a place writes its own line word before it joins
 pub step-Prepare : (needs : Needs) → AreNeeds needs → needs.top < 2 ^ count_bits → (places : ℕ) (row : ℕ → ℕ) (standing : ℕ → Place) (state : AbstractState) (me : ℕ)
-    → places < 65536 → me < places → (s : Refines needs places row standing state)
+    → places < 65536 → me < places → (s : Invariant needs places row standing state)
     → (request : ℕ) (seen : Word) → (standing me).stage ≡ Prepare request seen → StepRefines needs places row standing state me (Prepare request seen)
 step-Prepare needs lawful wide places row standing state me room here s request seen at =
-    let alone : IsAlone needs (standing me).registration (standing me).back (Prepare request seen) =
-    subst (λ stage. IsAlone needs (standing me).registration (standing me).back stage) at (s.stages.alone me) in
+    let alone : IsLocallyTrue needs (standing me).registration (standing me).back (Prepare request seen) =
+    subst (λ stage. IsLocallyTrue needs (standing me).registration (standing me).back stage) at (s.stages.alone me) in
     let ranged : IsRanged needs (Prepare request seen) = subst (λ stage. IsRanged needs stage) at (s.stages.ranged me) in
     let none : is_holder (standing me).stage ≡ false = ap is_holder at in
     let nothing : s.owed me ≡ [] = subst (λ stage. IsShowing (s.owed me) (s.answer_value me) stage) at (s.stages.showing me) in
@@ -207,10 +207,10 @@ step-Prepare needs lawful wide places row standing state me room here s request 
 -- a place that joins is held as one that is registered in the line
 held-joined : (places : ℕ) (standing : ℕ → Place) (state : AbstractState) (me request : ℕ) → AreSeats places standing state → is_slot (standing me).registration ≡ false
     → (other : ℕ) → held_by other (record state { line = state.line ++ (me, request) ∷ [] })
-    ≡ one_if (is_slot (updated standing me (record (standing me) { registration = Slot request; stage = Quiet }) other).registration)
+    ≡ one_if (is_slot (updated standing me (record (standing me) { registration = Queued request; stage = Quiet }) other).registration)
 held-joined places standing state me request was idle =
     each-updated (λ (n : ℕ) (p : Place). held_by n (record state { line = state.line ++ (me, request) ∷ [] }) ≡ one_if (is_slot p.registration))
-    standing me (record (standing me) { registration = Slot request; stage = Quiet })
+    standing me (record (standing me) { registration = Queued request; stage = Quiet })
     (omega (arith, was.held me, ap one_if idle, times-append me state.line ((me, request) ∷ []), one_if-same me))
     (λ other apart.
     let test : me == other ≡ false = number_other me other (λ is. apart (sym is)) in
@@ -218,17 +218,17 @@ held-joined places standing state me request was idle =
 
 -- A place joins the line
 joined : (needs : Needs) → AreNeeds needs → needs.top < 2 ^ count_bits → (places : ℕ) (row : ℕ → ℕ) (standing : ℕ → Place) (state : AbstractState) (me : ℕ)
-    → places < 65536 → me < places → (s : Refines needs places row standing state) → is_holder (standing me).stage ≡ false → s.owed me ≡ []
+    → places < 65536 → me < places → (s : Invariant needs places row standing state) → is_holder (standing me).stage ≡ false → s.owed me ≡ []
     → state.poisoned ≡ false → (request : ℕ) (seen : Word) → IsSmall seen → is_slot (standing me).registration ≡ false → main_of row ≡ seen
     → must_wait needs state request ≡ true → IsOwn (line_of row me) (Join request seen)
-    → Refines needs places (updated row 0 (word_number count_bits (record seen { tail = me + 1 })))
-    (updated standing me (record (standing me) { registration = Slot request; stage = Quiet })) (record state { line = state.line ++ (me, request) ∷ [] })
+    → Invariant needs places (updated row 0 (word_number count_bits (record seen { tail = me + 1 })))
+    (updated standing me (record (standing me) { registration = Queued request; stage = Quiet })) (record state { line = state.line ++ (me, request) ∷ [] })
 joined needs lawful wide places row standing state me room here s none nothing calm request seen small idle is waits own =
     let tail : seen.tail ≡ newest 0 state.line = ap (λ (w : Word). w.tail) (sym is) ∙ s.main.tail in
     let count : seen.count ≡ state.count = ap (λ (w : Word). w.count) (sym is) ∙ s.main.count in
     let word : Word = record seen { tail = me + 1 } in
     let number : ℕ = word_number count_bits word in
-    let place : Place = record (standing me) { registration = Slot request; stage = Quiet } in
+    let place : Place = record (standing me) { registration = Queued request; stage = Quiet } in
     let after : List (ℕ × ℕ) = state.line ++ (me, request) ∷ [] in
     let older : newest 0 state.line ≡ newest 0 s.uncut =
     elim (cases_Bool (is_empty s.uncut)) [
@@ -282,11 +282,11 @@ joined needs lawful wide places row standing state me room here s none nothing c
 
 -- a place joins the line, where the main word is as it saw it, and else is decided by the main word as it stands
 pub step-Join : (needs : Needs) → AreNeeds needs → needs.top < 2 ^ count_bits → (places : ℕ) (row : ℕ → ℕ) (standing : ℕ → Place) (state : AbstractState) (me : ℕ)
-    → places < 65536 → me < places → (s : Refines needs places row standing state)
+    → places < 65536 → me < places → (s : Invariant needs places row standing state)
     → (request : ℕ) (seen : Word) → (standing me).stage ≡ Join request seen → StepRefines needs places row standing state me (Join request seen)
 step-Join needs lawful wide places row standing state me room here s request seen at =
-    let alone : IsAlone needs (standing me).registration (standing me).back (Join request seen) =
-    subst (λ stage. IsAlone needs (standing me).registration (standing me).back stage) at (s.stages.alone me) in
+    let alone : IsLocallyTrue needs (standing me).registration (standing me).back (Join request seen) =
+    subst (λ stage. IsLocallyTrue needs (standing me).registration (standing me).back stage) at (s.stages.alone me) in
     let ranged : IsRanged needs (Join request seen) = subst (λ stage. IsRanged needs stage) at (s.stages.ranged me) in
     let own : IsOwn (line_of row me) (Join request seen) = subst (λ stage. IsOwn (line_of row me) stage) at (s.stages.own me) in
     let none : is_holder (standing me).stage ≡ false = ap is_holder at in

@@ -7,13 +7,13 @@ use Rattle.saa_core_words.specs.declared.word.Word.{Word}
 use Rattle.saa_core_words.specs.declared.line_word.LineWord.{LineWord}
 use Rattle.saa_word_steps.specs.declared.place.Place.{Place}
 use Rattle.saa_word_steps.specs.declared.place.Registration.TheVariants.{Idle}
-use Rattle.saa_word_steps.specs.declared.place.Back.TheVariants.{Ends as EndsCall}
+use Rattle.saa_word_steps.specs.declared.place.AfterWalk.TheVariants.{Ends as EndsCall}
 use Rattle.saa_word_steps.specs.declared.place.Stage.{Stage}
 use Rattle.saa_word_steps.specs.Needs.{Needs}
-use Rattle.saa_word_steps.specs.declared.event.Event.TheVariants.{Left}
+use Rattle.saa_word_steps.specs.declared.event.Event.TheVariants.{Cancelled}
 use Rattle.saa_word_steps.specs.AbstractState.{AbstractState, IsRun, is_empty, is_in, held_by}
 use Rattle.saa_word_steps.specs.Steps.{IsRanged, left_line}
-use Rattle.saa_word_proofs.specs.Refinement.{joins_line, newest, is_holder, gives_up, IsAlone, IsOwn, IsShowing, Work, IsFound, IsHolding, IsMain, AreSeats, AreDebts, Refines}
+use Rattle.saa_word_proofs.specs.Refinement.{joins_line, newest, is_holder, gives_up, IsLocallyTrue, IsOwn, IsShowing, Work, IsFound, IsHolding, IsMain, AreSeats, AreDebts, Invariant}
 use Rattle.saa_word_proofs.specs.Rows.{IsBehind, line_of, updated}
 use Rattle.saa_word_proofs.specs.Registering.{is_slot}
 use Rattle.saa_word_proofs.specs.History.{of_place}
@@ -100,7 +100,7 @@ found-room row line before after asker linked parts =
 
 -- The event, for the object with the waiters that are left
 pub left-run : (needs : Needs) (state : AbstractState) (me request : ℕ) (before after : List (ℕ × ℕ)) → state.line ≡ before ++ (me, request) ∷ after
-    → times me state.line ≡ 1 → IsRun needs state (of_place me (Left ∷ [])) (left state (before ++ after))
+    → times me state.line ≡ 1 → IsRun needs state (of_place me (Cancelled ∷ [])) (left state (before ++ after))
 left-run needs state me request before after parts once =
     let rest : without me state.line ≡ before ++ after =
     ap (λ (l : List (ℕ × ℕ)). without me l) parts
@@ -192,18 +192,18 @@ owed-out places words standing state owed answer_value seats debts place other o
 -- The whole
 
 -- The holder leaves the line by a write that leaves the line words of all who don't wait, and goes on at a stage
-pub leaving : (needs : Needs) (places : ℕ) (row : ℕ → ℕ) (standing : ℕ → Place) (state : AbstractState) (me : ℕ) (s : Refines needs places row standing state)
+pub leaving : (needs : Needs) (places : ℕ) (row : ℕ → ℕ) (standing : ℕ → Place) (state : AbstractState) (me : ℕ) (s : Invariant needs places row standing state)
     (at number request : ℕ) (stage : Stage) (before after : List (ℕ × ℕ)) (next : ℕ)
     → me < places → at ≤ places → s.holder ≡ me + 1 → state.line ≡ before ++ (me, request) ∷ after
     → ((place : ℕ) → is_in place state.line ≡ false → line_of (updated row at number) place ≡ line_of row place)
     → IsBehind (line_of (updated row at number)) 0 (before ++ after)
     → IsMain needs (updated row at number 0) (left state (before ++ after)) next
-    → IsRanged needs stage → IsAlone needs Idle EndsCall stage → (gives_up EndsCall stage ≡ false)
+    → IsRanged needs stage → IsLocallyTrue needs Idle EndsCall stage → (gives_up EndsCall stage ≡ false)
     → IsOwn (line_of (updated row at number) me) stage → IsShowing (s.owed me) (s.answer_value me) stage
     → is_holder stage ≡ (next == me + 1)
     → (next ≡ me + 1 → IsHolding needs (line_of (updated row at number)) me state.count (before ++ after) [] stage)
     → ((other : ℕ) → (other ≡ me → ⊥) → (s.holder == other + 1) ≡ (next == other + 1))
-    → Refines needs places (updated row at number) (updated standing me (record (left_line (standing me)) { stage = stage })) (left state (before ++ after))
+    → Invariant needs places (updated row at number) (updated standing me (record (left_line (standing me)) { stage = stage })) (left state (before ++ after))
 leaving needs places row standing state me s at number request stage before after next here below mine parts words linked main ranged alone stays own showing
     holder holding others = record {
       holder = next;

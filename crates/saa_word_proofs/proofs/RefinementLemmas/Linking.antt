@@ -11,7 +11,7 @@ use Rattle.saa_word_steps.specs.declared.place.Stage.{Stage}
 use Rattle.saa_word_steps.specs.Needs.{Needs}
 use Rattle.saa_word_steps.specs.AbstractState.{AbstractState, is_empty, is_in}
 use Rattle.saa_word_steps.specs.Steps.{IsRanged}
-use Rattle.saa_word_proofs.specs.Refinement.{joins_line, newest, oldest, IsAhead, is_holder, gives_up, IsAlone, IsOwn, IsShowing, Work, IsHolding, IsAt, IsMain, IsLine, AreSeats, Refines}
+use Rattle.saa_word_proofs.specs.Refinement.{joins_line, newest, oldest, IsAhead, is_holder, gives_up, IsLocallyTrue, IsOwn, IsShowing, Work, IsHolding, IsAt, IsMain, IsLine, AreSeats, Invariant}
 use Rattle.saa_word_proofs.specs.Rows.{IsBehind, line_of, updated}
 use Rattle.saa_word_proofs.specs.Registering.{is_slot}
 use Rattle.saa_word_proofs.proofs.RefinementLemmas.Lists.{in-some, behind-frame, behind-rest, newest-append, newest-last, empty-nil}
@@ -19,11 +19,11 @@ use Rattle.saa_word_proofs.proofs.RefinementLemmas.Frames.{stages-next, newest-s
 use Rattle.saa_word_proofs.proofs.RefinementLemmas.Rows.{line-other, row-other, own-any, seats-next}
 
 -- a place that holds the flag is its holder, and knows what a holder does
-pub flag-held : (needs : Needs) (places : ℕ) (row : ℕ → ℕ) (standing : ℕ → Place) (state : AbstractState) (me : ℕ) (s : Refines needs places row standing state)
+pub flag-held : (needs : Needs) (places : ℕ) (row : ℕ → ℕ) (standing : ℕ → Place) (state : AbstractState) (me : ℕ) (s : Invariant needs places row standing state)
     → is_holder (standing me).stage ≡ true → s.holder ≡ me + 1
 flag-held needs places row standing state me s holds = same_number s.holder (me + 1) (sym (s.stages.one me) ∙ holds)
 
-pub flag-knows : (needs : Needs) (places : ℕ) (row : ℕ → ℕ) (standing : ℕ → Place) (state : AbstractState) (me : ℕ) (s : Refines needs places row standing state)
+pub flag-knows : (needs : Needs) (places : ℕ) (row : ℕ → ℕ) (standing : ℕ → Place) (state : AbstractState) (me : ℕ) (s : Invariant needs places row standing state)
     (stage : Stage) → (standing me).stage ≡ stage → is_holder stage ≡ true → IsHolding needs (line_of row) me state.count state.line s.cut stage
 flag-knows needs places row standing state me s stage at holds =
     subst (λ (other : Stage). IsHolding needs (line_of row) me state.count state.line s.cut other) at
@@ -90,15 +90,15 @@ pub line-room : (number : ℕ) → ((line_word_of number).request < 65536) × ((
 line-room number = (omega arith, omega arith, omega arith)
 
 -- The holder writes the line word of a place in line, and goes on as a holder that knows the line by the new words
-pub relinked : (needs : Needs) (places : ℕ) (row : ℕ → ℕ) (standing : ℕ → Place) (state : AbstractState) (me : ℕ) (s : Refines needs places row standing state)
+pub relinked : (needs : Needs) (places : ℕ) (row : ℕ → ℕ) (standing : ℕ → Place) (state : AbstractState) (me : ℕ) (s : Invariant needs places row standing state)
     (next : Stage) (at number : ℕ) (off rest : List (ℕ × ℕ))
     → (places ≤ me → joins_line next ≡ false) → s.holder ≡ me + 1 → 0 < times at state.line
     → IsLine (line_of (updated row (at + 1) number)) state.line off rest
-    → IsRanged needs next → IsAlone needs (standing me).registration (standing me).back next
+    → IsRanged needs next → IsLocallyTrue needs (standing me).registration (standing me).back next
     → (gives_up (standing me).back next ≡ true → is_in me state.line ≡ false)
     → IsOwn (line_of (updated row (at + 1) number) me) next → IsShowing (s.owed me) (s.answer_value me) next
     → is_holder next ≡ true → IsHolding needs (line_of (updated row (at + 1) number)) me state.count state.line off next
-    → Refines needs places (updated row (at + 1) number) (updated standing me (record (standing me) { stage = next })) state
+    → Invariant needs places (updated row (at + 1) number) (updated standing me (record (standing me) { stage = next })) state
 relinked needs places row standing state me s next at number off rest free flag there line ranged alone apart own showing holder holding =
     let seat = in-line places standing state at s.seats there in
     record {

@@ -13,7 +13,7 @@ use Rattle.saa_word_steps.specs.declared.place.Stage.TheVariants.{Forward, LookL
 use Rattle.saa_word_steps.specs.Needs.{Needs, AreNeeds}
 use Rattle.saa_word_steps.specs.AbstractState.{AbstractState, is_empty, is_in}
 use Rattle.saa_word_steps.specs.Steps.{IsRanged}
-use Rattle.saa_word_proofs.specs.Refinement.{newest, oldest, is_holder, gives_up, IsLeaving, IsAlone, IsOwn, IsShowing, Work, IsHolding, IsAdded, IsBack, IsPassed, IsFound, Refines}
+use Rattle.saa_word_proofs.specs.Refinement.{newest, oldest, is_holder, gives_up, IsLeaving, IsLocallyTrue, IsOwn, IsShowing, Work, IsHolding, IsAdded, IsBack, IsPassed, IsFound, Invariant}
 use Rattle.saa_word_proofs.specs.Rows.{IsBehind, line_of, updated}
 use Rattle.saa_word_proofs.specs.StepRefinement.{StepRefines}
 use Rattle.saa_word_proofs.proofs.RefinementLemmas.Lists.{in-append, split-last, newest-last, newest-empty, empty-nil, behind-rest}
@@ -47,7 +47,7 @@ found words me held line seen current newer work back linked own =
 
 -- The line word of the last of the front is loaded: it is the own one, or is to be linked to those behind it
 pub step-LookLoad : (needs : Needs) → AreNeeds needs → needs.top < 2 ^ count_bits → (places : ℕ) (row : ℕ → ℕ) (standing : ℕ → Place) (state : AbstractState) (me : ℕ)
-    → places < 65536 → me < places → (s : Refines needs places row standing state)
+    → places < 65536 → me < places → (s : Invariant needs places row standing state)
     → (seen : Word) (current newer : ℕ) (previous : LineWord) → (standing me).stage ≡ LookLoad seen current newer previous
     → StepRefines needs places row standing state me (LookLoad seen current newer previous)
 step-LookLoad needs lawful wide places row standing state me room here s seen current newer previous at =
@@ -56,16 +56,16 @@ step-LookLoad needs lawful wide places row standing state me room here s seen cu
     let there = newest-stands work.front current knows.2.1 knows.2.0 in
     let seat = in-line places standing state (pred current) s.seats (work-front state.count state.line seen work (pred current) there.0) in
     let leaving : IsLeaving (standing me).registration (standing me).back =
-    subst (λ stage. IsAlone needs (standing me).registration (standing me).back stage) at (s.stages.alone me) in
+    subst (λ stage. IsLocallyTrue needs (standing me).registration (standing me).back stage) at (s.stages.alone me) in
     let small : seen.count < 2 ^ count_bits = subst (λ stage. IsRanged needs stage) at (s.stages.ranged me) in
     let nothing : s.owed me ≡ [] = subst (λ stage. IsShowing (s.owed me) (s.answer_value me) stage) at (s.stages.showing me) in
     let linked : IsBehind (line_of row) 0 state.line = linked-all (line_of row) state.line s.cut s.uncut s.line knows.1 in
     let line : LineWord = line_word_of (row current) in
-    let on : (next : Stage) → IsRanged needs next → IsAlone needs (standing me).registration (standing me).back next
+    let on : (next : Stage) → IsRanged needs next → IsLocallyTrue needs (standing me).registration (standing me).back next
     → (gives_up (standing me).back next ≡ true → is_in me state.line ≡ false)
     → IsOwn (line_of row me) next → IsShowing (s.owed me) (s.answer_value me) next → is_holder next ≡ true
     → IsHolding needs (line_of row) me state.count state.line s.cut next
-    → Refines needs places (updated row current (row current)) (updated standing me (record (standing me) { stage = next })) state =
+    → Invariant needs places (updated row current (row current)) (updated standing me (record (standing me) { stage = next })) state =
     λ next ranged alone apart own showing holder holding.
     loaded needs places row (updated standing me (record (standing me) { stage = next })) state current
     (moved needs places row standing state me s (record (standing me) { stage = next }) (λ out. absurd (omega (arith, out, here))) refl ranged alone apart own showing
@@ -113,7 +113,7 @@ passed-all me held line seen work none passed =
 
 -- It is written with the link to the one behind it; the look goes on to the one before, or the whole line is passed
 pub step-LookStore : (needs : Needs) → AreNeeds needs → needs.top < 2 ^ count_bits → (places : ℕ) (row : ℕ → ℕ) (standing : ℕ → Place) (state : AbstractState) (me : ℕ)
-    → places < 65536 → me < places → (s : Refines needs places row standing state)
+    → places < 65536 → me < places → (s : Invariant needs places row standing state)
     → (seen : Word) (current newer : ℕ) (line : LineWord) → (standing me).stage ≡ LookStore seen current newer line
     → StepRefines needs places row standing state me (LookStore seen current newer line)
 step-LookStore needs lawful wide places row standing state me room here s seen current newer line at =
@@ -124,17 +124,17 @@ step-LookStore needs lawful wide places row standing state me room here s seen c
     let work : Work state.count state.line seen = store.walk.work in
     let passed : IsPassed me work.behind work.joined = store.walk.passed me knows.5 knows.3 in
     let leaving : IsLeaving (standing me).registration (standing me).back =
-    subst (λ stage. IsAlone needs (standing me).registration (standing me).back stage) at (s.stages.alone me) in
+    subst (λ stage. IsLocallyTrue needs (standing me).registration (standing me).back stage) at (s.stages.alone me) in
     let small : seen.count < 2 ^ count_bits = subst (λ stage. IsRanged needs stage) at (s.stages.ranged me) in
     let nothing : s.owed me ≡ [] = subst (λ stage. IsShowing (s.owed me) (s.answer_value me) stage) at (s.stages.showing me) in
     let number : ℕ = line_number (record line { newer = newer }) in
-    let on : (next : Stage) → IsRanged needs next → IsAlone needs (standing me).registration (standing me).back next
+    let on : (next : Stage) → IsRanged needs next → IsLocallyTrue needs (standing me).registration (standing me).back next
     → (gives_up (standing me).back next ≡ true → is_in me state.line ≡ false)
     → IsOwn (line_of (updated row (pred current + 1) number) me) next → IsShowing (s.owed me) (s.answer_value me) next → is_holder next ≡ true
     → IsHolding needs (line_of (updated row (pred current + 1) number)) me state.count state.line s.cut next
-    → Refines needs places (updated row current number) (updated standing me (record (standing me) { stage = next })) state =
+    → Invariant needs places (updated row current number) (updated standing me (record (standing me) { stage = next })) state =
     λ next ranged alone apart own showing holder holding.
-    subst (λ (link : ℕ). Refines needs places (updated row link number) (updated standing me (record (standing me) { stage = next })) state) (sym store.link)
+    subst (λ (link : ℕ). Invariant needs places (updated row link number) (updated standing me (record (standing me) { stage = next })) state) (sym store.link)
     (relinked needs places row standing state me s next (pred current) number s.cut s.uncut (λ out. absurd (omega (arith, out, here))) flag store.waits store.linked
     ranged alone apart own showing holder holding) in
     record {

@@ -12,24 +12,24 @@ use Rattle.saa_word_steps.specs.declared.call.WordCall.TheVariants.{Try, Registe
 use Rattle.saa_word_steps.specs.declared.call.Answer.{Answer}
 use Rattle.saa_word_steps.specs.declared.call.Answer.TheVariants.{Bool as Says, Tried, Unit as Ended}
 use Rattle.saa_word_steps.specs.declared.place.Place.{Place}
-use Rattle.saa_word_steps.specs.declared.place.Given.{Given}
-use Rattle.saa_word_steps.specs.declared.place.Given.TheVariants.{Asked, AllButAShare}
-use Rattle.saa_word_steps.specs.declared.place.Back.{Back}
-use Rattle.saa_word_steps.specs.declared.place.Back.TheVariants.{Tells, Ends as EndsCall, Takes}
+use Rattle.saa_word_steps.specs.declared.place.ReleaseAmount.{ReleaseAmount}
+use Rattle.saa_word_steps.specs.declared.place.ReleaseAmount.TheVariants.{Requested, AllButAShare}
+use Rattle.saa_word_steps.specs.declared.place.AfterWalk.{AfterWalk}
+use Rattle.saa_word_steps.specs.declared.place.AfterWalk.TheVariants.{Tells, Ends as EndsCall, Takes}
 use Rattle.saa_word_steps.specs.declared.place.Ask.{Ask}
 use Rattle.saa_word_steps.specs.declared.place.Reading.{Reading}
 use Rattle.saa_word_steps.specs.declared.place.Registration.{Registration}
-use Rattle.saa_word_steps.specs.declared.place.Registration.TheVariants.{Idle, Once, Slot}
-use Rattle.saa_word_steps.specs.declared.place.Taking.{Taking}
-use Rattle.saa_word_steps.specs.declared.place.Taking.TheVariants.{Tries, Awaits, Gives}
-use Rattle.saa_word_steps.specs.declared.place.Afterwards.{Afterwards}
-use Rattle.saa_word_steps.specs.declared.place.Afterwards.TheVariants.{Ends, Again}
+use Rattle.saa_word_steps.specs.declared.place.Registration.TheVariants.{Idle, AnsweredAtOnce, Queued}
+use Rattle.saa_word_steps.specs.declared.place.PollMode.{PollMode}
+use Rattle.saa_word_steps.specs.declared.place.PollMode.TheVariants.{Tries, Awaits, Gives}
+use Rattle.saa_word_steps.specs.declared.place.AfterShow.{AfterShow}
+use Rattle.saa_word_steps.specs.declared.place.AfterShow.TheVariants.{Ends, Again}
 use Rattle.saa_word_steps.specs.declared.place.Next.{Next}
 use Rattle.saa_word_steps.specs.declared.place.Stage.{Stage}
 use Rattle.saa_word_steps.specs.declared.place.Stage.TheVariants.{Take}
 use Rattle.saa_word_steps.specs.Needs.{Needs}
 use Rattle.saa_word_steps.specs.declared.event.Event.{Event}
-use Rattle.saa_word_steps.specs.declared.event.Event.TheVariants.{Got, Refused, AskedPoisoned, Left, Poisoned, NotPoisoned, NotReady, Took}
+use Rattle.saa_word_steps.specs.declared.event.Event.TheVariants.{Acquired, Refused, AskedPoisoned, Cancelled, Poisoned, NotPoisoned, NotReady, AnswerTaken}
 use Rattle.saa_word_steps.specs.Steps.{left_from, decided, granted, found_poisoned, finished, given, given_to, gave_nothing, dropped, taken_answer, shown_all, flagging, poisoning}
 use Rattle.saa_word_steps.specs.Readings.{tried_answer}
 use Rattle.saa_word_proofs.specs.Refinement.{waits_behind}
@@ -61,26 +61,26 @@ ask-answered needs (RegisterMode mode) registered ask event answer is names = (e
 ask-answered needs call registered ask event answer is names = absurd (cc)
 
 -- what an event names for who may give something back
-abbrev given_names : Option Given → Event → Option Answer
+abbrev given_names : Option ReleaseAmount → Event → Option Answer
 given_names None event = None
 given_names (Some what) event = release_named what event
 
 -- an event names the answer of a release, which isn't a cancel
-release-named : (needs : Needs) (call : WordCall) (what : Given) (event : Event) → given_by call ≡ Some what
+release-named : (needs : Needs) (call : WordCall) (what : ReleaseAmount) (event : Event) → given_by call ≡ Some what
     → (answer_named needs call event ≡ release_named what event) × (call ≢ Cancel)
-release-named needs (Release count) what event is = (ap (λ (g : Option Given). given_names g event) is, λ cancel. absurd (cc))
-release-named needs ReleaseLock what event is = (ap (λ (g : Option Given). given_names g event) is, λ cancel. absurd (cc))
-release-named needs ReleaseShare what event is = (ap (λ (g : Option Given). given_names g event) is, λ cancel. absurd (cc))
-release-named needs Downgrade what event is = (ap (λ (g : Option Given). given_names g event) is, λ cancel. absurd (cc))
+release-named needs (Release count) what event is = (ap (λ (g : Option ReleaseAmount). given_names g event) is, λ cancel. absurd (cc))
+release-named needs ReleaseLock what event is = (ap (λ (g : Option ReleaseAmount). given_names g event) is, λ cancel. absurd (cc))
+release-named needs ReleaseShare what event is = (ap (λ (g : Option ReleaseAmount). given_names g event) is, λ cancel. absurd (cc))
+release-named needs Downgrade what event is = (ap (λ (g : Option ReleaseAmount). given_names g event) is, λ cancel. absurd (cc))
 release-named needs call what event is = absurd (cc)
 
 -- what is given back is told, and so is what isn't held
-gave-says : (what : Given) → release_named what (gave what) ≡ Some (Says true)
-gave-says (Asked request) = rw (number_same request) refl
+gave-says : (what : ReleaseAmount) → release_named what (gave what) ≡ Some (Says true)
+gave-says (Requested request) = rw (number_same request) refl
 gave-says AllButAShare = refl
 
-nothing-says : (what : Given) → release_named what (gave_not what) ≡ Some (Says false)
-nothing-says (Asked request) = rw (number_same request) refl
+nothing-says : (what : ReleaseAmount) → release_named what (gave_not what) ≡ Some (Says false)
+nothing-says (Requested request) = rw (number_same request) refl
 nothing-says AllButAShare = refl
 
 -- what an event names for who may read
@@ -99,20 +99,20 @@ read-answered needs IsPoisoned registered reading event answer is names = (event
 read-answered needs call registered reading event answer is names = absurd (cc)
 
 -- whether a poll may be told that it isn't its turn yet
-abbrev is_try : Taking → Bool
+abbrev is_try : PollMode → Bool
 is_try Tries = true
 is_try _ = false
 
 -- what an event names for who may take its answer
-abbrev taken_names : Option Taking → Event → Option Answer
+abbrev taken_names : Option PollMode → Event → Option Answer
 taken_names None event = None
 taken_names (Some taking) event = poll_named (is_try taking) event
 
 -- an event names the answer of a poll
-poll-answered : (needs : Needs) (call : WordCall) (registered : Registration) (taking : Taking) (event : Event) (answer : Answer) → taken_by call ≡ Some taking
+poll-answered : (needs : Needs) (call : WordCall) (registered : Registration) (taking : PollMode) (event : Event) (answer : Answer) → taken_by call ≡ Some taking
     → poll_named (is_try taking) event ≡ Some answer → IsAnswered needs call registered (event ∷ []) answer
-poll-answered needs TryPoll registered taking event answer is names = (event, refl, ap (λ (t : Option Taking). taken_names t event) is ∙ names)
-poll-answered needs Poll registered taking event answer is names = (event, refl, ap (λ (t : Option Taking). taken_names t event) is ∙ names)
+poll-answered needs TryPoll registered taking event answer is names = (event, refl, ap (λ (t : Option PollMode). taken_names t event) is ∙ names)
+poll-answered needs Poll registered taking event answer is names = (event, refl, ap (λ (t : Option PollMode). taken_names t event) is ∙ names)
 poll-answered needs call registered taking event answer is names = absurd (cc)
 
 -- a cancel is answered that it ended
@@ -121,7 +121,7 @@ pub cancel-answered : (needs : Needs) (call : WordCall) (registered : Registrati
 cancel-answered needs call registered events is cancelled = rw is (refl, cancelled)
 
 -- a step that names nothing
-pub unnamed : (needs : Needs) (call : WordCall) (registered : Registration) (back : Back) (stage : Stage) (events : List Event) (next : Next)
+pub unnamed : (needs : Needs) (call : WordCall) (registered : Registration) (back : AfterWalk) (stage : Stage) (events : List Event) (next : Next)
     → IsUnderNext needs call registered back stage events next → IsUnderNext needs call registered back stage (events ++ []) next
 unnamed needs call registered back stage events next under =
     subst (λ (l : List Event). IsUnderNext needs call registered back stage l next) (sym (append-nil events)) under
@@ -130,11 +130,11 @@ unnamed needs call registered back stage events next under =
 
 -- a call that is granted at once has named that it got what it asked
 pub granted-under : (needs : Needs) (call : WordCall) (registered : Registration) (stage : Stage) (place : Place) (ask : Ask) → asked_by call ≡ Some ask
-    → IsUnderNext needs call registered place.back stage (Got ask.request ∷ []) (granted needs place ask)
+    → IsUnderNext needs call registered place.back stage (Acquired ask.request ∷ []) (granted needs place ask)
 granted-under needs call registered stage place ask is =
     elim (cases_Bool ask.joins) [
-      | inl joins ↦ rw joins (ask-answered needs call registered ask (Got ask.request) (Says true) is (rw (number_same ask.request, joins) refl))
-      | inr tries ↦ rw tries (ask-answered needs call registered ask (Got ask.request) (tried_answer needs true) is (rw (number_same ask.request, tries) refl))
+      | inl joins ↦ rw joins (ask-answered needs call registered ask (Acquired ask.request) (Says true) is (rw (number_same ask.request, joins) refl))
+      | inr tries ↦ rw tries (ask-answered needs call registered ask (Acquired ask.request) (tried_answer needs true) is (rw (number_same ask.request, tries) refl))
     ]
 
 -- who finds a poisoned lock has named that
@@ -180,7 +180,7 @@ decided-under needs call registered stage place ask seen is =
 -- A call that is done with the line
 
 -- it answers what it named, or takes its own answer next
-pub finished-under : (needs : Needs) (call : WordCall) (registered : Registration) (was : Back) (stage : Stage) (events : List Event) (place : Place) (back : Back)
+pub finished-under : (needs : Needs) (call : WordCall) (registered : Registration) (was : AfterWalk) (stage : Stage) (events : List Event) (place : Place) (back : AfterWalk)
     → IsWorking needs call registered back events → IsUnderNext needs call registered was stage events (finished place back)
 finished-under needs call registered was stage events place Tells working =
     subst (λ (l : List Event). IsAnswered needs call registered l (Says true)) (sym working.1)
@@ -189,7 +189,7 @@ finished-under needs call registered was stage events place EndsCall working = c
 finished-under needs call registered was stage events place (Takes request) working = working
 
 -- behind the last answer that is shown
-pub shown-under : (needs : Needs) (call : WordCall) (registered : Registration) (stage : Stage) (events : List Event) (place : Place) (afterwards : Afterwards)
+pub shown-under : (needs : Needs) (call : WordCall) (registered : Registration) (stage : Stage) (events : List Event) (place : Place) (afterwards : AfterShow)
     → IsWorking needs call registered place.back events → IsUnderNext needs call registered place.back stage events (shown_all place afterwards)
 shown-under needs call registered stage events place Ends working =
     finished-under needs call registered place.back stage events place place.back working
@@ -198,14 +198,14 @@ shown-under needs call registered stage events place (Again seen) working = work
 -- Releases
 
 -- a cancel that has given back, or found nothing to give back, is one that has named so
-gave-cancelled : (needs : Needs) (registered : Registration) (what : Given) (events last : List Event) → IsGivingUp needs registered what events
-    → ((request : ℕ) → what ≡ Asked request → IsDropped request last) → IsCancelled needs registered (events ++ last)
+gave-cancelled : (needs : Needs) (registered : Registration) (what : ReleaseAmount) (events last : List Event) → IsGivingUp needs registered what events
+    → ((request : ℕ) → what ≡ Requested request → IsDropped request last) → IsCancelled needs registered (events ++ last)
 gave-cancelled needs Idle what events last giving is = absurd giving
-gave-cancelled needs (Once value asked) what events last giving is = rw giving.2 (giving.1, is asked giving.0)
-gave-cancelled needs (Slot asked) what events last giving is = rw giving.2 (inr (inr (giving.1, (last, refl, is asked giving.0))))
+gave-cancelled needs (AnsweredAtOnce value asked) what events last giving is = rw giving.2 (giving.1, is asked giving.0)
+gave-cancelled needs (Queued asked) what events last giving is = rw giving.2 (inr (inr (giving.1, (last, refl, is asked giving.0))))
 
 -- who gives back what it holds goes on with the line, or is done
-pub gave-working : (needs : Needs) (call : WordCall) (registered : Registration) (back : Back) (what : Given) (events : List Event)
+pub gave-working : (needs : Needs) (call : WordCall) (registered : Registration) (back : AfterWalk) (what : ReleaseAmount) (events : List Event)
     → IsReleasing needs call registered back what events → IsWorking needs call registered back (events ++ gave what ∷ [])
 gave-working needs call registered Tells what events releasing =
     let names = release-named needs call what (gave what) releasing.0 in (
@@ -215,24 +215,24 @@ gave-working needs call registered Tells what events releasing =
       names.1,
     )
 gave-working needs call registered EndsCall what events releasing =
-    (releasing.0, gave-cancelled needs registered what events (gave what ∷ []) releasing.1 (λ request is. inl (ap (λ (g : Given). gave g ∷ []) is)))
+    (releasing.0, gave-cancelled needs registered what events (gave what ∷ []) releasing.1 (λ request is. inl (ap (λ (g : ReleaseAmount). gave g ∷ []) is)))
 gave-working needs call registered (Takes asked) what events releasing = absurd releasing
 
 -- who finds nothing to give back is done
-gave-nothing-under : (needs : Needs) (call : WordCall) (registered : Registration) (was : Back) (stage : Stage) (place : Place) (back : Back)
-    (what : Given) (events : List Event) → IsReleasing needs call registered back what events
+gave-nothing-under : (needs : Needs) (call : WordCall) (registered : Registration) (was : AfterWalk) (stage : Stage) (place : Place) (back : AfterWalk)
+    (what : ReleaseAmount) (events : List Event) → IsReleasing needs call registered back what events
     → IsUnderNext needs call registered was stage (events ++ gave_not what ∷ []) (gave_nothing place back)
 gave-nothing-under needs call registered was stage place Tells what events releasing =
     let names = release-named needs call what (gave_not what) releasing.0 in
     rw releasing.1 (answered needs call registered (gave_not what) (Says false) names.1 (names.0 ∙ nothing-says what))
 gave-nothing-under needs call registered was stage place EndsCall what events releasing =
     cancel-answered needs call registered (events ++ gave_not what ∷ []) releasing.0
-    (gave-cancelled needs registered what events (gave_not what ∷ []) releasing.1 (λ request is. inr (ap (λ (g : Given). gave_not g ∷ []) is)))
+    (gave-cancelled needs registered what events (gave_not what ∷ []) releasing.1 (λ request is. inr (ap (λ (g : ReleaseAmount). gave_not g ∷ []) is)))
 gave-nothing-under needs call registered was stage place (Takes asked) what events releasing = absurd releasing
 
 -- a release that looks at what is left
 left-under : (needs : Needs) (call : WordCall) (registered : Registration) (stage : Stage) (place : Place)
-    (what : Given) (seen : Word) (left : Option ℕ) (events : List Event)
+    (what : ReleaseAmount) (seen : Word) (left : Option ℕ) (events : List Event)
     → IsReleasing needs call registered place.back what events
     → IsUnderNext needs call registered place.back stage (events ++ left_events what left) (given_to place what seen left)
 left-under needs call registered stage place what seen None events releasing =
@@ -242,7 +242,7 @@ left-under needs call registered stage place what seen (Some left) events releas
 
 -- a release that is decided, of a main word that is poisoned or not
 tested-under : (needs : Needs) (call : WordCall) (registered : Registration) (stage : Stage) (place : Place)
-    (what : Given) (seen : Word) (events : List Event) (poisoned : Bool)
+    (what : ReleaseAmount) (seen : Word) (events : List Event) (poisoned : Bool)
     → IsReleasing needs call registered place.back what events
     → IsUnderNext needs call registered place.back stage
     (events ++ (if poisoned then gave_not what ∷ [] else left_events what (left_from needs seen.count what)))
@@ -253,7 +253,7 @@ tested-under needs call registered stage place what seen events false releasing 
     left-under needs call registered stage place what seen (left_from needs seen.count what) events releasing
 
 -- a release that is decided
-pub given-under : (needs : Needs) (call : WordCall) (registered : Registration) (stage : Stage) (place : Place) (what : Given) (seen : Word) (events : List Event)
+pub given-under : (needs : Needs) (call : WordCall) (registered : Registration) (stage : Stage) (place : Place) (what : ReleaseAmount) (seen : Word) (events : List Event)
     → IsReleasing needs call registered place.back what events
     → IsUnderNext needs call registered place.back stage (events ++ given_events needs what seen) (given needs place what seen)
 given-under needs call registered stage place what seen events releasing =
@@ -262,14 +262,14 @@ given-under needs call registered stage place what seen events releasing =
 -- Answers that are taken
 
 -- what is granted and took something is given back by a cancel
-dropped-under : (needs : Needs) (call : WordCall) (registered : Registration) (was : Back) (stage : Stage) (place : Place) (request value : ℕ)
-    → call ≡ Cancel → registered ≡ Slot request
-    → IsUnderNext needs call registered was stage (Took value ∷ []) (dropped needs place request value)
+dropped-under : (needs : Needs) (call : WordCall) (registered : Registration) (was : AfterWalk) (stage : Stage) (place : Place) (request value : ℕ)
+    → call ≡ Cancel → registered ≡ Queued request
+    → IsUnderNext needs call registered was stage (AnswerTaken value ∷ []) (dropped needs place request value)
 dropped-under needs call registered was stage place request value is slot =
     elim (cases_Bool (is_taken_up needs request value)) [
       | inl up ↦ rw up (is, taken-up needs registered request value slot up)
-      | inr free ↦ rw free (cancel-answered needs call registered (Took value ∷ []) is
-          (subst (λ (r : Registration). IsCancelled needs r (Took value ∷ [])) (sym slot) (inr (inl (value, refl, free)))))
+      | inr free ↦ rw free (cancel-answered needs call registered (AnswerTaken value ∷ []) is
+          (subst (λ (r : Registration). IsCancelled needs r (AnswerTaken value ∷ [])) (sym slot) (inr (inl (value, refl, free)))))
     ]
   where
     -- two tests that both are as they should be
@@ -279,39 +279,39 @@ dropped-under needs call registered was stage place request value is slot =
     both-so false other both = absurd (cc)
 
     -- such a cancel has named that it took its answer
-    taken-up : (needs : Needs) (registered : Registration) (request value : ℕ) → registered ≡ Slot request → is_taken_up needs request value ≡ true
-        → IsGivingUp needs registered (Asked request) (Took value ∷ [])
+    taken-up : (needs : Needs) (registered : Registration) (request value : ℕ) → registered ≡ Queued request → is_taken_up needs request value ≡ true
+        → IsGivingUp needs registered (Requested request) (AnswerTaken value ∷ [])
     taken-up needs registered request value slot up =
         let both = both-so (value == granted_value) (needs.takes request == 0) up in
         let some : needs.takes request ≢ 0 = λ none.
         (let wrong : true ≡ false = sym (ap (λ (n : ℕ). n == 0) none) ∙ both.1 in absurd (cc)) in
-        subst (λ (r : Registration). IsGivingUp needs r (Asked request) (Took value ∷ [])) (sym slot)
-        (refl, some, ap (λ (n : ℕ). Took n ∷ []) (same_number value granted_value both.0))
+        subst (λ (r : Registration). IsGivingUp needs r (Requested request) (AnswerTaken value ∷ [])) (sym slot)
+        (refl, some, ap (λ (n : ℕ). AnswerTaken n ∷ []) (same_number value granted_value both.0))
 
 -- an answer that is taken, and none that is there
-pub taken-under : (needs : Needs) (call : WordCall) (registered : Registration) (place : Place) (taking : Taking) (answer : Option ℕ) (events : List Event)
+pub taken-under : (needs : Needs) (call : WordCall) (registered : Registration) (place : Place) (taking : PollMode) (answer : Option ℕ) (events : List Event)
     → IsTaking call registered taking events
     → IsUnderNext needs call registered place.back (Take taking) (events ++ taken_events taking answer) (taken_answer needs place taking answer)
 taken-under needs call registered place (Gives request) (Some value) events h =
     rw h.2 (dropped-under needs call registered place.back (Take (Gives request)) place request value h.0 h.1)
 taken-under needs call registered place (Gives request) None events h = (h.0, h.1, ap (λ (l : List Event). l ++ []) h.2)
-taken-under needs call registered place Awaits (Some value) events h = rw h.1 (poll-answered needs call registered Awaits (Took value) _ h.0 refl)
+taken-under needs call registered place Awaits (Some value) events h = rw h.1 (poll-answered needs call registered Awaits (AnswerTaken value) _ h.0 refl)
 taken-under needs call registered place Awaits None events h = (h.0, ap (λ (l : List Event). l ++ []) h.1)
-taken-under needs call registered place Tries (Some value) events h = rw h.1 (poll-answered needs call registered Tries (Took value) _ h.0 refl)
+taken-under needs call registered place Tries (Some value) events h = rw h.1 (poll-answered needs call registered Tries (AnswerTaken value) _ h.0 refl)
 taken-under needs call registered place Tries None events h = rw h.1 (poll-answered needs call registered Tries NotReady _ h.0 refl)
 
 -- Leaving the line
 
 -- a cancel that left the line has named so
-pub left-cancelled : (needs : Needs) (call : WordCall) (registered : Registration) (back : Back) (events : List Event) → IsLeavingLine call registered back events
-    → (call ≡ Cancel) × IsCancelled needs registered (events ++ Left ∷ [])
+pub left-cancelled : (needs : Needs) (call : WordCall) (registered : Registration) (back : AfterWalk) (events : List Event) → IsLeavingLine call registered back events
+    → (call ≡ Cancel) × IsCancelled needs registered (events ++ Cancelled ∷ [])
 left-cancelled needs call registered Tells events leaving = absurd leaving
 left-cancelled needs call registered EndsCall events leaving = absurd leaving
 left-cancelled needs call registered (Takes request) events leaving =
-    (leaving.0, rw leaving.2 (subst (λ (r : Registration). IsCancelled needs r (Left ∷ [])) (sym leaving.1) (inl refl)))
+    (leaving.0, rw leaving.2 (subst (λ (r : Registration). IsCancelled needs r (Cancelled ∷ [])) (sym leaving.1) (inl refl)))
 
 -- a cancel that isn't found in the line works for the others, and then takes its own answer
-pub left-working : (needs : Needs) (call : WordCall) (registered : Registration) (back : Back) (events : List Event) → IsLeavingLine call registered back events
+pub left-working : (needs : Needs) (call : WordCall) (registered : Registration) (back : AfterWalk) (events : List Event) → IsLeavingLine call registered back events
     → IsWorking needs call registered back events
 left-working needs call registered Tells events leaving = absurd leaving
 left-working needs call registered EndsCall events leaving = absurd leaving
@@ -349,6 +349,6 @@ poisoning-under needs call registered stage place seen is tells stays =
     ]
 
 -- a place that has poisoned the lock works for the waiters
-pub poison-working : (needs : Needs) (call : WordCall) (registered : Registration) (back : Back) → call ≡ PoisonLock → back ≡ Tells
+pub poison-working : (needs : Needs) (call : WordCall) (registered : Registration) (back : AfterWalk) → call ≡ PoisonLock → back ≡ Tells
     → IsWorking needs call registered back (Poisoned ∷ [])
 poison-working needs call registered back is tells = rw (is, tells) (Poisoned, refl, refl, λ cancel. absurd (cc))

@@ -8,14 +8,14 @@ use Rattle.saa_word_steps.specs.Needs.{Needs}
 use Rattle.saa_word_steps.specs.declared.event.Event.{Event}
 use Rattle.saa_word_steps.specs.AbstractState.{AbstractState, IsRun}
 use Rattle.saa_word_steps.specs.Steps.{word_at, written_by, operation_of, next_of}
-use Rattle.saa_word_proofs.specs.Refinement.{is_holder, AreAnswers, Refines}
+use Rattle.saa_word_proofs.specs.Refinement.{is_holder, AreAnswers, Invariant}
 use Rattle.saa_word_proofs.specs.Rows.{updated}
 use Rattle.saa_word_proofs.specs.StepRefinement.{StepRefines, named_at, never_poisons, place_after}
 use Rattle.saa_word_proofs.specs.History.{named, of_place}
 use Rattle.saa_word_proofs.proofs.RefinementLemmas.Rows.{loaded, row-other}
 
 -- a place that doesn't hold the flag isn't its holder
-pub not-holder : (needs : Needs) (places : ℕ) (row : ℕ → ℕ) (standing : ℕ → Place) (state : AbstractState) (me : ℕ) (s : Refines needs places row standing state)
+pub not-holder : (needs : Needs) (places : ℕ) (row : ℕ → ℕ) (standing : ℕ → Place) (state : AbstractState) (me : ℕ) (s : Invariant needs places row standing state)
     → is_holder (standing me).stage ≡ false → s.holder ≡ me + 1 → ⊥
 not-holder needs places row standing state me s none is =
     let test : (s.holder == me + 1) ≡ true = ap (λ (n : ℕ). n == me + 1) is ∙ number_same (me + 1) in
@@ -29,7 +29,7 @@ pub record Outcome (needs : Needs) (places : ℕ) (row : ℕ → ℕ) (standing 
   pub run : IsRun needs state (of_place me events) last
   pub names : named events ≡ wanted
   pub calm : needs.is_lock ≡ false → never_poisons events ≡ true
-  pub stands : Refines needs places row (updated standing me (place_after (standing me) next)) last
+  pub stands : Invariant needs places row (updated standing me (place_after (standing me) next)) last
 
 -- A step that leaves the main word as it was is what its place has come to
 pub only-looked : (needs : Needs) (places : ℕ) (row : ℕ → ℕ) (standing : ℕ → Place) (state : AbstractState) (me : ℕ) (stage : Stage) {next : Next} {wanted : List Event}

@@ -9,7 +9,7 @@ use Rattle.saa_core_words.specs.declared.word.Word.{Word}
 use Rattle.saa_core_words.specs.declared.line_word.LineWord.{LineWord}
 use Rattle.saa_core_words.specs.Words.{count_bits, word_number, word_of, lock_count}
 use Rattle.saa_word_steps.specs.declared.place.Place.{Place}
-use Rattle.saa_word_steps.specs.declared.place.Afterwards.TheVariants.{Ends}
+use Rattle.saa_word_steps.specs.declared.place.AfterShow.TheVariants.{Ends}
 use Rattle.saa_word_steps.specs.declared.place.Next.{Next}
 use Rattle.saa_word_steps.specs.declared.place.Next.TheVariants.{Waits}
 use Rattle.saa_word_steps.specs.declared.place.Stage.{Stage}
@@ -19,7 +19,7 @@ use Rattle.saa_word_steps.specs.declared.event.Event.TheVariants.{Poisoned, NotP
 use Rattle.saa_word_steps.specs.AbstractState.{AbstractState, IsOwned, is_empty, is_in, answered_with, granted_by, held_by}
 use Rattle.saa_word_steps.specs.Steps.{IsRanged, going, poisoning, settled_word}
 use Rattle.saa_word_steps.specs.Readings.{poisoned_word}
-use Rattle.saa_word_proofs.specs.Refinement.{joins_line, newest, is_holder, takes_back, IsAlone, IsOwn, IsShowing, IsLine, AreDebts, AreStages, Refines}
+use Rattle.saa_word_proofs.specs.Refinement.{joins_line, newest, is_holder, takes_back, IsLocallyTrue, IsOwn, IsShowing, IsLine, AreDebts, AreStages, Invariant}
 use Rattle.saa_word_proofs.specs.Rows.{line_of, main_of, updated}
 use Rattle.saa_word_proofs.specs.StepRefinement.{StepRefines, poisoning_events}
 use Rattle.saa_word_proofs.proofs.RefinementLemmas.Lists.{updated-same}
@@ -50,7 +50,7 @@ not-owned false false test calm = refl
 
 -- Poison that is decided by the main word as it stands
 poisoning-outcome : (needs : Needs) (places : ℕ) (row : ℕ → ℕ) (standing : ℕ → Place) (state : AbstractState) (me : ℕ)
-    → (s : Refines needs places row standing state) → is_holder (standing me).stage ≡ false → s.owed me ≡ []
+    → (s : Invariant needs places row standing state) → is_holder (standing me).stage ≡ false → s.owed me ≡ []
     → needs.is_lock ≡ true → takes_back (standing me).back ≡ false
     → Outcome needs places row standing state me (poisoning (standing me) (main_of row)) (poisoning_events (main_of row))
 poisoning-outcome needs places row standing state me s none nothing lock tells =
@@ -80,7 +80,7 @@ poisoning-outcome needs places row standing state me s none nothing lock tells =
               run = refl;
               names = refl;
               calm = λ semaphore. refl;
-              stands = subst (λ (p : ℕ → Place). Refines needs places row p state) (sym (updated-same standing me (standing me) refl)) s;
+              stands = subst (λ (p : ℕ → Place). Invariant needs places row p state) (sym (updated-same standing me (standing me) refl)) s;
             })
             | inr clear ↦ rw owned
                 (subst (λ (next : Next). Outcome needs places row standing state me next [])
@@ -99,11 +99,11 @@ poisoning-outcome needs places row standing state me s none nothing lock tells =
 
 -- The poisoner looks at the main word
 pub step-PoisonLoad : (needs : Needs) → AreNeeds needs → needs.top < 2 ^ count_bits → (places : ℕ) (row : ℕ → ℕ) (standing : ℕ → Place) (state : AbstractState) (me : ℕ)
-    → places < 65536 → (s : Refines needs places row standing state)
+    → places < 65536 → (s : Invariant needs places row standing state)
     → (standing me).stage ≡ PoisonLoad → StepRefines needs places row standing state me PoisonLoad
 step-PoisonLoad needs lawful wide places row standing state me room s at =
-    let alone : IsAlone needs (standing me).registration (standing me).back PoisonLoad =
-    subst (λ (stage : Stage). IsAlone needs (standing me).registration (standing me).back stage) at (s.stages.alone me) in
+    let alone : IsLocallyTrue needs (standing me).registration (standing me).back PoisonLoad =
+    subst (λ (stage : Stage). IsLocallyTrue needs (standing me).registration (standing me).back stage) at (s.stages.alone me) in
     let out = poisoning-outcome needs places row standing state me s (ap is_holder at)
     (subst (λ (stage : Stage). IsShowing (s.owed me) (s.answer_value me) stage) at (s.stages.showing me)) alone.0 alone.1 in
     only-looked needs places row standing state me PoisonLoad out refl refl refl refl
@@ -127,11 +127,11 @@ held-poisoned state me place once =
     ]
 
 -- A lock is poisoned by a write to the main word: the waiters' answers are owed by the place that poisoned, which goes on at a stage
-poisoned-stands : (needs : Needs) (places : ℕ) (row : ℕ → ℕ) (standing : ℕ → Place) (state : AbstractState) (me : ℕ) (s : Refines needs places row standing state)
+poisoned-stands : (needs : Needs) (places : ℕ) (row : ℕ → ℕ) (standing : ℕ → Place) (state : AbstractState) (me : ℕ) (s : Invariant needs places row standing state)
     (stage : Stage) → joins_line stage ≡ false → s.holder == 0 ≡ true → s.owed me ≡ [] → needs.is_lock ≡ true
-    → IsRanged needs stage → IsAlone needs (standing me).registration (standing me).back stage
+    → IsRanged needs stage → IsLocallyTrue needs (standing me).registration (standing me).back stage
     → IsOwn (line_of row me) stage → IsShowing state.line 2 stage → is_holder stage ≡ false
-    → Refines needs places (updated row 0 (word_number count_bits poisoned_word)) (updated standing me (record (standing me) { stage = stage }))
+    → Invariant needs places (updated row 0 (word_number count_bits poisoned_word)) (updated standing me (record (standing me) { stage = stage }))
     (poisoned_after state me)
 poisoned-stands needs places row standing state me s stage never unheld none lock ranged alone own showing holder =
     let number : ℕ = word_number count_bits poisoned_word in
@@ -173,11 +173,11 @@ poisoned-stands needs places row standing state me s stage never unheld none loc
 
 -- A poisoner that saw a lock of one owner poisons it, and shows that to all waiters; or decides by the word that it found
 pub step-PoisonExchange : (needs : Needs) → AreNeeds needs → needs.top < 2 ^ count_bits → (places : ℕ) (row : ℕ → ℕ) (standing : ℕ → Place) (state : AbstractState) (me : ℕ)
-    → places < 65536 → (s : Refines needs places row standing state)
+    → places < 65536 → (s : Invariant needs places row standing state)
     → (seen : Word) → (standing me).stage ≡ PoisonExchange seen → StepRefines needs places row standing state me (PoisonExchange seen)
 step-PoisonExchange needs lawful wide places row standing state me room s seen at =
-    let alone : IsAlone needs (standing me).registration (standing me).back (PoisonExchange seen) =
-    subst (λ (stage : Stage). IsAlone needs (standing me).registration (standing me).back stage) at (s.stages.alone me) in
+    let alone : IsLocallyTrue needs (standing me).registration (standing me).back (PoisonExchange seen) =
+    subst (λ (stage : Stage). IsLocallyTrue needs (standing me).registration (standing me).back stage) at (s.stages.alone me) in
     let ranged : IsRanged needs (PoisonExchange seen) = subst (λ (stage : Stage). IsRanged needs stage) at (s.stages.ranged me) in
     let none : is_holder (standing me).stage ≡ false = ap is_holder at in
     let nothing : s.owed me ≡ [] = subst (λ (stage : Stage). IsShowing (s.owed me) (s.answer_value me) stage) at (s.stages.showing me) in
@@ -201,7 +201,7 @@ step-PoisonExchange needs lawful wide places row standing state me room s seen a
                 elim (cases_Bool (seen.tail == 0)) [
                   | inl alone_there ↦
                       rw (same, alone_there)
-                      (subst (λ (p : Place). Refines needs places (updated row 0 (word_number count_bits poisoned_word)) (updated standing me p)
+                      (subst (λ (p : Place). Invariant needs places (updated row 0 (word_number count_bits poisoned_word)) (updated standing me p)
                       (poisoned_after state me))
                       (sym (ended (standing me) (standing me).back))
                       (poisoned-stands needs places row standing state me s (end_stage (standing me).back) (ended-joins (standing me).back) unheld nothing alone.0
@@ -234,7 +234,7 @@ number-kept : (number : ℕ) → number < 2 ^ (count_bits + 18) → word_number 
 number-kept number whole = omega (arith, whole, bit-kept (number / 2 ^ count_bits), bit-kept (number / 2 ^ count_bits / 2))
 
 -- the main word of a poisoned lock is that of poison alone
-pub poisoned-number : (needs : Needs) (places : ℕ) (row : ℕ → ℕ) (standing : ℕ → Place) (state : AbstractState) (s : Refines needs places row standing state)
+pub poisoned-number : (needs : Needs) (places : ℕ) (row : ℕ → ℕ) (standing : ℕ → Place) (state : AbstractState) (s : Invariant needs places row standing state)
     → state.poisoned ≡ true → row 0 ≡ word_number count_bits poisoned_word
 poisoned-number needs places row standing state s poisoned =
     let barren = s.main.barren poisoned in
@@ -248,7 +248,7 @@ poisoned-number needs places row standing state s poisoned =
     sym (number-kept (row 0) s.main.whole) ∙ ap (word_number count_bits) is
 
 -- what isn't cleared isn't poisoned
-never-poisoned : (needs : Needs) (places : ℕ) (row : ℕ → ℕ) (standing : ℕ → Place) (state : AbstractState) (s : Refines needs places row standing state)
+never-poisoned : (needs : Needs) (places : ℕ) (row : ℕ → ℕ) (standing : ℕ → Place) (state : AbstractState) (s : Invariant needs places row standing state)
     → row 0 == word_number count_bits poisoned_word ≡ false → state.poisoned ≡ false
 never-poisoned needs places row standing state s differs =
     elim (cases_Bool state.poisoned) [
@@ -261,9 +261,9 @@ never-poisoned needs places row standing state s differs =
     ]
 
 -- Poison is cleared by a write to the main word, where nobody waits
-cleared-stands : (needs : Needs) (places : ℕ) (row : ℕ → ℕ) (standing : ℕ → Place) (state : AbstractState) (me : ℕ) (s : Refines needs places row standing state)
+cleared-stands : (needs : Needs) (places : ℕ) (row : ℕ → ℕ) (standing : ℕ → Place) (state : AbstractState) (me : ℕ) (s : Invariant needs places row standing state)
     → is_holder (standing me).stage ≡ false → s.owed me ≡ [] → state.poisoned ≡ true
-    → Refines needs places (updated row 0 (word_number count_bits (settled_word 0 0))) (updated standing me (record (standing me) { stage = Quiet }))
+    → Invariant needs places (updated row 0 (word_number count_bits (settled_word 0 0))) (updated standing me (record (standing me) { stage = Quiet }))
     (record state { poisoned = false })
 cleared-stands needs places row standing state me s none nothing poisoned =
     let barren = s.main.barren poisoned in
@@ -295,7 +295,7 @@ cleared-stands needs places row standing state me s none nothing poisoned =
 
 -- A call that clears poison does so in one exchange, or finds none
 pub step-Clear : (needs : Needs) → AreNeeds needs → needs.top < 2 ^ count_bits → (places : ℕ) (row : ℕ → ℕ) (standing : ℕ → Place) (state : AbstractState) (me : ℕ)
-    → places < 65536 → (s : Refines needs places row standing state)
+    → places < 65536 → (s : Invariant needs places row standing state)
     → (standing me).stage ≡ Clear → StepRefines needs places row standing state me Clear
 step-Clear needs lawful wide places row standing state me room s at =
     let none : is_holder (standing me).stage ≡ false = ap is_holder at in

@@ -11,16 +11,16 @@ use Rattle.saa_core_words.specs.Words.{count_bits, word_number, word_of, line_wo
 use Rattle.saa_core_words.proofs.Words.{answer-read}
 use Rattle.saa_word_steps.specs.declared.place.Place.{Place}
 use Rattle.saa_word_steps.specs.declared.place.Ask.{Ask}
-use Rattle.saa_word_steps.specs.declared.place.Afterwards.{Afterwards}
-use Rattle.saa_word_steps.specs.declared.place.Afterwards.TheVariants.{Ends, Again}
-use Rattle.saa_word_steps.specs.declared.place.Given.{Given}
-use Rattle.saa_word_steps.specs.declared.place.Back.{Back}
-use Rattle.saa_word_steps.specs.declared.place.Back.TheVariants.{Tells, Ends as EndsCall, Takes}
-use Rattle.saa_word_steps.specs.declared.place.Taking.{Taking}
-use Rattle.saa_word_steps.specs.declared.place.Taking.TheVariants.{Tries, Awaits, Gives}
+use Rattle.saa_word_steps.specs.declared.place.AfterShow.{AfterShow}
+use Rattle.saa_word_steps.specs.declared.place.AfterShow.TheVariants.{Ends, Again}
+use Rattle.saa_word_steps.specs.declared.place.ReleaseAmount.{ReleaseAmount}
+use Rattle.saa_word_steps.specs.declared.place.AfterWalk.{AfterWalk}
+use Rattle.saa_word_steps.specs.declared.place.AfterWalk.TheVariants.{Tells, Ends as EndsCall, Takes}
+use Rattle.saa_word_steps.specs.declared.place.PollMode.{PollMode}
+use Rattle.saa_word_steps.specs.declared.place.PollMode.TheVariants.{Tries, Awaits, Gives}
 use Rattle.saa_word_steps.specs.declared.place.Stage.{Stage}
-use Rattle.saa_word_steps.specs.declared.place.Stage.TheVariants.{Quiet, ReadLoad, AskLoad, AskExchange, Prepare, Join, ReleaseLoad, ReleaseExchange, BackLoad, BackStore, Forward, CutToClose, CutToGoRound, Close, Empty, GoRound, ShowLoad, ShowStore, Take, FlagLoad, FlagExchange, LookLoad, LookStore, Unlink, DropTail, PoisonLoad, PoisonExchange, Clear}
-use Rattle.saa_word_steps.specs.declared.place.Registration.TheVariants.{Slot}
+use Rattle.saa_word_steps.specs.declared.place.Stage.TheVariants.{Quiet, ReadLoad, AcquireLoad, AcquireExchange, Prepare, Join, ReleaseLoad, ReleaseExchange, BackLoad, BackStore, Forward, CutToClose, CutForRetry, Close, Empty, Retry, ShowLoad, ShowStore, Take, FlagLoad, FlagExchange, LookLoad, LookStore, Unlink, DropTail, PoisonLoad, PoisonExchange, Clear}
+use Rattle.saa_word_steps.specs.declared.place.Registration.TheVariants.{Queued}
 use Rattle.saa_word_steps.specs.declared.operation.Operation.TheVariants.{Exchange}
 use Rattle.saa_word_steps.specs.declared.place.Next.{Next}
 use Rattle.saa_word_steps.specs.declared.place.Next.TheVariants.{Waits}
@@ -29,7 +29,7 @@ use Rattle.saa_word_steps.specs.AbstractState.{AbstractState, is_in, held_by}
 use Rattle.saa_word_steps.specs.Steps.{left_from, word_at, operation_of, next_of, finished, granted, decided, gave_nothing, given_to, given, shown_all, dropped, looked_at, closing, taken_answer, flagging, poisoning, flagged_word}
 use Rattle.saa_word_steps.specs.Readings.{poisoned_word}
 use Rattle.saa_word_steps.proofs.AbstractRuns.{waits-none}
-use Rattle.saa_word_proofs.specs.Refinement.{IsAlone, Refines}
+use Rattle.saa_word_proofs.specs.Refinement.{IsLocallyTrue, Invariant}
 use Rattle.saa_word_proofs.specs.Rows.{IsOwnedAndFlagged, main_of}
 use Rattle.saa_word_proofs.specs.Registering.{is_slot}
 use Rattle.saa_word_proofs.specs.StepRefinement.{row_after}
@@ -53,7 +53,7 @@ either true one other o t = o
 either false one other o t = t
 
 -- a call that is done with the line, one that is granted at once, and one that registered
-pub on-finished : (place : Place) (back : Back) → GoesOn (finished place back)
+pub on-finished : (place : Place) (back : AfterWalk) → GoesOn (finished place back)
 on-finished place Tells = refl
 on-finished place EndsCall = refl
 on-finished place (Takes request) = refl
@@ -70,21 +70,21 @@ on-decided needs place ask seen =
     (either (needs.takes ask.request == 0) _ _ (on-granted needs place ask) refl))
 
 -- who gives something back
-on-nothing : (place : Place) (back : Back) → GoesOn (gave_nothing place back)
+on-nothing : (place : Place) (back : AfterWalk) → GoesOn (gave_nothing place back)
 on-nothing place Tells = refl
 on-nothing place EndsCall = refl
 on-nothing place (Takes request) = refl
 
-on-left : (place : Place) (what : Given) (seen : Word) (left : Option ℕ) → GoesOn (given_to place what seen left)
+on-left : (place : Place) (what : ReleaseAmount) (seen : Word) (left : Option ℕ) → GoesOn (given_to place what seen left)
 on-left place what seen None = on-nothing place place.back
 on-left place what seen (Some left) = refl
 
-on-given : (needs : Needs) (place : Place) (what : Given) (seen : Word) → GoesOn (given needs place what seen)
+on-given : (needs : Needs) (place : Place) (what : ReleaseAmount) (seen : Word) → GoesOn (given needs place what seen)
 on-given needs place what seen =
     either seen.is_poisoned _ _ (on-nothing place place.back) (on-left place what seen (left_from needs seen.count what))
 
 -- behind the last answer that is shown, and with an answer that is dropped
-on-shown : (place : Place) (afterwards : Afterwards) → GoesOn (shown_all place afterwards)
+on-shown : (place : Place) (afterwards : AfterShow) → GoesOn (shown_all place afterwards)
 on-shown place Ends = on-finished place place.back
 on-shown place (Again seen) = refl
 
@@ -92,7 +92,7 @@ on-dropped : (needs : Needs) (place : Place) (request value : ℕ) → GoesOn (d
 on-dropped needs place request value = either (value == granted_value && not (needs.takes request == 0)) _ _ refl refl
 
 -- an answer that is there is taken
-pub on-some : (needs : Needs) (place : Place) (taking : Taking) (value : ℕ) → GoesOn (taken_answer needs place taking (Some value))
+pub on-some : (needs : Needs) (place : Place) (taking : PollMode) (value : ℕ) → GoesOn (taken_answer needs place taking (Some value))
 on-some needs place (Gives request) value = on-dropped needs place request value
 on-some needs place Awaits value = refl
 on-some needs place Tries value = refl
@@ -129,8 +129,8 @@ may_wait _ = false
 pub goes-on : (needs : Needs) (me : ℕ) (place : Place) (stage : Stage) (found : ℕ) → may_wait stage ≡ false → GoesOn (next_of needs me place stage found)
 goes-on needs me place Quiet found other = refl
 goes-on needs me place (ReadLoad reading) found other = refl
-goes-on needs me place (AskLoad ask) found other = on-decided needs place ask (word_of count_bits found)
-goes-on needs me place (AskExchange ask seen) found other =
+goes-on needs me place (AcquireLoad ask) found other = on-decided needs place ask (word_of count_bits found)
+goes-on needs me place (AcquireExchange ask seen) found other =
     either (found == word_number count_bits seen) _ _ (on-granted needs place ask) (on-decided needs place ask (word_of count_bits found))
 goes-on needs me place (Prepare request seen) found other = refl
 goes-on needs me place (Join request seen) found other =
@@ -144,11 +144,11 @@ goes-on needs me place (BackLoad seen current newer) found other = refl
 goes-on needs me place (BackStore seen current newer line) found other = either (line.older == 0) _ _ refl refl
 goes-on needs me place (Forward seen current count) found other = on-looked needs place seen current count (line_word_of found)
 goes-on needs me place (CutToClose seen current count line) found other = refl
-goes-on needs me place (CutToGoRound seen current count line) found other = refl
+goes-on needs me place (CutForRetry seen current count line) found other = refl
 goes-on needs me place (Close seen count top) found other = on-closing place seen count top found
 goes-on needs me place (Empty seen current count line) found other =
     either (found == word_number count_bits seen) _ _ refl (either (line.older == 0) _ _ refl refl)
-goes-on needs me place (GoRound seen count top) found other = either (top == 0) _ _ refl refl
+goes-on needs me place (Retry seen count top) found other = either (top == 0) _ _ refl refl
 goes-on needs me place (ShowLoad current value afterwards) found other = refl
 goes-on needs me place (ShowStore current next value afterwards) found other = either (next == 0) _ _ (on-shown place afterwards) refl
 goes-on needs me place (Take Tries) found other = on-tried needs place (answer_of (found % 65536))
@@ -197,7 +197,7 @@ not-exchanged row old new differs = rw differs (updated-same row 0 (row 0) refl)
 -- The answer that isn't there
 
 -- an answer that is there is read, so a waiter has none
-none-shown : (needs : Needs) (place : Place) (taking : Taking) (answer : Option ℕ) → ((value : ℕ) → answer ≡ Some value → value < 256)
+none-shown : (needs : Needs) (place : Place) (taking : PollMode) (answer : Option ℕ) → ((value : ℕ) → answer ≡ Some value → value < 256)
     → taken_answer needs place taking (answer_of (answer_number answer % 65536)) ≡ Waits → answer ≡ None
 none-shown needs place taking None small waits = refl
 none-shown needs place taking (Some value) small waits =
@@ -222,7 +222,7 @@ held-else state me held none =
 
 -- a place that is registered in the line and finds no answer
 takes-none : (needs : Needs) (places : ℕ) (row : ℕ → ℕ) (standing : ℕ → Place) (state : AbstractState) (me : ℕ)
-    → Refines needs places row standing state → (taking : Taking) → is_slot (standing me).registration ≡ true
+    → Invariant needs places row standing state → (taking : PollMode) → is_slot (standing me).registration ≡ true
     → taken_answer needs (standing me) taking (answer_of (row (places + me + 1) % 65536)) ≡ Waits
     → ((is_in me state.line || is_some (state.due me)) ≡ true) × (row_after row (operation_of needs places me (Take taking)) ≡ row)
 takes-none needs places row standing state me s taking slot waits =
@@ -235,16 +235,16 @@ takes-none needs places row standing state me s taking slot waits =
 
 -- A step of a place or of a visitor that is answered that it waits
 pub only-stalls-anyone : (needs : Needs) (places : ℕ) (row : ℕ → ℕ) (standing : ℕ → Place) (state : AbstractState) (me : ℕ)
-    → Refines needs places row standing state → (stage : Stage) → (standing me).stage ≡ stage
+    → Invariant needs places row standing state → (stage : Stage) → (standing me).stage ≡ stage
     → next_of needs me (standing me) stage (row (word_at (operation_of needs places me stage))) ≡ Waits
     → IsBlockedAt state me (main_of row) stage × (row_after row (operation_of needs places me stage) ≡ row)
 only-stalls-anyone needs places row standing state me s (Take Awaits) at waits =
     let slot : is_slot (standing me).registration ≡ true =
-    subst (λ stage. IsAlone needs (standing me).registration (standing me).back stage) at (s.stages.alone me) in
+    subst (λ stage. IsLocallyTrue needs (standing me).registration (standing me).back stage) at (s.stages.alone me) in
     takes-none needs places row standing state me s Awaits slot waits
 only-stalls-anyone needs places row standing state me s (Take (Gives request)) at waits =
-    let slot : (standing me).registration ≡ Slot request =
-    subst (λ stage. IsAlone needs (standing me).registration (standing me).back stage) at (s.stages.alone me) in
+    let slot : (standing me).registration ≡ Queued request =
+    subst (λ stage. IsLocallyTrue needs (standing me).registration (standing me).back stage) at (s.stages.alone me) in
     let both = takes-none needs places row standing state me s (Gives request) (ap is_slot slot) waits in
     let out : is_in me state.line ≡ false = apart-at needs places row standing state me s (Take (Gives request)) at refl in
     (sym (ap (λ (b : Bool). b || is_some (state.due me)) out) ∙ both.0, both.1)
@@ -265,7 +265,7 @@ only-stalls-anyone needs places row standing state me s stage at waits =
 
 -- the same at a place
 pub only-stalls : (needs : Needs) (places : ℕ) (row : ℕ → ℕ) (standing : ℕ → Place) (state : AbstractState) (me : ℕ) → me < places
-    → Refines needs places row standing state → (stage : Stage) → (standing me).stage ≡ stage
+    → Invariant needs places row standing state → (stage : Stage) → (standing me).stage ≡ stage
     → next_of needs me (standing me) stage (row (word_at (operation_of needs places me stage))) ≡ Waits
     → IsBlockedAt state me (main_of row) stage × (row_after row (operation_of needs places me stage) ≡ row)
 only-stalls needs places row standing state me here s stage at waits = only-stalls-anyone needs places row standing state me s stage at waits

@@ -7,19 +7,19 @@ use Rattle.saa_core_words.specs.Words.{count_bits}
 use Rattle.saa_word_steps.specs.declared.place.Place.{Place}
 use Rattle.saa_word_steps.specs.Needs.{Needs}
 use Rattle.saa_word_steps.specs.AbstractState.{AbstractState, opening}
-use Rattle.saa_word_proofs.specs.Refinement.{newest, Refines}
+use Rattle.saa_word_proofs.specs.Refinement.{newest, Invariant}
 use Rattle.saa_word_proofs.specs.Rows.{IsBehind, line_of, main_of}
 use Rattle.saa_word_proofs.specs.Registering.{is_slot}
-use Rattle.saa_word_proofs.specs.Promises.{idle_place, opening_row, AreAsking, IsMet, newest_first, Observes}
+use Rattle.saa_word_proofs.specs.Promises.{idle_place, opening_row, AreAsking, IsChain, newest_first, WordsShow}
 use Rattle.saa_word_proofs.proofs.RefinementLemmas.Poisoning.{poisoned-number}
 
 -- along older neighbours a line is met from its newest on
-pub line-met : (words : ℕ → LineWord) (older : ℕ) (line : List (ℕ × ℕ)) (before : List ℕ) → IsBehind words older line → IsMet words older before
-    → IsMet words (newest older line) (newest_first line ++ before)
+pub line-met : (words : ℕ → LineWord) (older : ℕ) (line : List (ℕ × ℕ)) (before : List ℕ) → IsBehind words older line → IsChain words older before
+    → IsChain words (newest older line) (newest_first line ++ before)
 line-met words older [] before behind met = met
 line-met words older (asker ∷ rest) before behind met =
-    let further : IsMet words (asker.0 + 1) (asker.0 ∷ before) = (refl, subst (λ (n : ℕ). IsMet words n before) (sym behind.1) met) in
-    subst (λ (l : List ℕ). IsMet words (newest (asker.0 + 1) rest) l) (sym (append_assoc (newest_first rest) (asker.0 ∷ []) before))
+    let further : IsChain words (asker.0 + 1) (asker.0 ∷ before) = (refl, subst (λ (n : ℕ). IsChain words n before) (sym behind.1) met) in
+    subst (λ (l : List ℕ). IsChain words (newest (asker.0 + 1) rest) l) (sym (append_assoc (newest_first rest) (asker.0 ∷ []) before))
     (line-met words (asker.0 + 1) rest (asker.0 ∷ before) behind.2 further)
 
 -- what isn't false so is true
@@ -37,8 +37,8 @@ asks-append words [] rest one other = other
 asks-append words (asker ∷ front) rest one other = (one.0, asks-append words front rest one.1 other)
 
 -- What stands in the words
-pub says-so : (needs : Needs) (places : ℕ) (row : ℕ → ℕ) (standing : ℕ → Place) (state : AbstractState) → Refines needs places row standing state
-    → Observes needs places row state
+pub says-so : (needs : Needs) (places : ℕ) (row : ℕ → ℕ) (standing : ℕ → Place) (state : AbstractState) → Invariant needs places row standing state
+    → WordsShow needs places row state
 says-so needs places row standing state s =
     let free : (main_of row).is_flagged ≡ false → s.holder == 0 ≡ true = λ clear. not-false (s.holder == 0) (sym s.main.flag ∙ clear) in
     record {
@@ -52,10 +52,10 @@ says-so needs places row standing state s =
       line = λ clear.
           let whole : state.line ≡ s.uncut = s.line.parts ∙ ap (λ (l : List (ℕ × ℕ)). l ++ s.uncut) (s.free (free clear)) in
           let behind : IsBehind (line_of row) 0 state.line = subst (λ (l : List (ℕ × ℕ)). IsBehind (line_of row) 0 l) (sym whole) s.line.stays in
-          let met : IsMet (line_of row) (newest 0 state.line) (newest_first state.line) =
-          subst (λ (l : List ℕ). IsMet (line_of row) (newest 0 state.line) l) (append-nil (newest_first state.line))
+          let met : IsChain (line_of row) (newest 0 state.line) (newest_first state.line) =
+          subst (λ (l : List ℕ). IsChain (line_of row) (newest 0 state.line) l) (append-nil (newest_first state.line))
           (line-met (line_of row) 0 state.line [] behind refl) in
-          subst (λ (n : ℕ). IsMet (line_of row) n (newest_first state.line)) (sym s.main.tail) met;
+          subst (λ (n : ℕ). IsChain (line_of row) n (newest_first state.line)) (sym s.main.tail) met;
       closed = λ clear. s.main.closed (free clear);
       settled = λ clear. s.main.settled (s.main.closed (free clear));
       bounded = s.main.bounded;
@@ -63,7 +63,7 @@ says-so needs places row standing state s =
     }
 
 -- How it begins
-pub opens : (needs : Needs) → needs.top < 2 ^ count_bits → (places count : ℕ) → count ≤ needs.top → Refines needs places (opening_row count) (λ place. idle_place) (opening count)
+pub opens : (needs : Needs) → needs.top < 2 ^ count_bits → (places count : ℕ) → count ≤ needs.top → Invariant needs places (opening_row count) (λ place. idle_place) (opening count)
 opens needs wide places count small = record {
   holder = 0;
   cut = [];

@@ -6,17 +6,17 @@ use Rattle.saa_core_words.specs.declared.word.Word.{Word}
 use Rattle.saa_core_words.specs.declared.line_word.LineWord.{LineWord}
 use Rattle.saa_core_words.specs.Words.{count_bits, word_number}
 use Rattle.saa_word_steps.specs.declared.place.Place.{Place}
-use Rattle.saa_word_steps.specs.declared.place.Given.{Given}
-use Rattle.saa_word_steps.specs.declared.place.Given.TheVariants.{Asked, AllButAShare}
-use Rattle.saa_word_steps.specs.declared.place.Back.{Back}
-use Rattle.saa_word_steps.specs.declared.place.Back.TheVariants.{Tells, Ends, Takes}
+use Rattle.saa_word_steps.specs.declared.place.ReleaseAmount.{ReleaseAmount}
+use Rattle.saa_word_steps.specs.declared.place.ReleaseAmount.TheVariants.{Requested, AllButAShare}
+use Rattle.saa_word_steps.specs.declared.place.AfterWalk.{AfterWalk}
+use Rattle.saa_word_steps.specs.declared.place.AfterWalk.TheVariants.{Tells, Ends, Takes}
 use Rattle.saa_word_steps.specs.declared.place.Stage.{Stage}
 use Rattle.saa_word_steps.specs.declared.place.Stage.TheVariants.{Quiet, ReleaseLoad, ReleaseExchange, BackLoad}
 use Rattle.saa_word_steps.specs.Needs.{Needs, AreNeeds}
 use Rattle.saa_word_steps.specs.AbstractState.{AbstractState, IsEnabled, after_event, is_empty, count_or, IsSettledAt}
 use Rattle.saa_word_steps.specs.Steps.{IsRanged, left_from, gave_nothing, given_to, released}
 use Rattle.saa_word_steps.proofs.Giving.{left-share, left-shrinks}
-use Rattle.saa_word_proofs.specs.Refinement.{joins_line, newest, is_holder, takes_back, gives_up, IsAlone, IsOwn, IsShowing, IsHolding, IsLine, AreDebts, AreStages, Refines}
+use Rattle.saa_word_proofs.specs.Refinement.{joins_line, newest, is_holder, takes_back, gives_up, IsLocallyTrue, IsOwn, IsShowing, IsHolding, IsLine, AreDebts, AreStages, Invariant}
 use Rattle.saa_word_proofs.specs.Rows.{line_of, main_of, updated}
 use Rattle.saa_word_proofs.specs.StepRefinement.{StepRefines, gave, gave_not, left_events, never_poisons, place_after}
 use Rattle.saa_word_proofs.specs.History.{named}
@@ -31,59 +31,59 @@ use Rattle.saa_word_proofs.proofs.RefinementLemmas.Ending.{end_stage, ended, end
 -- What a place gives back, and whether it has it
 
 -- that it isn't held is enabled where it isn't, and changes nothing
-nothing-enabled : (needs : Needs) (state : AbstractState) (me : ℕ) (what : Given) → (state.poisoned ≡ false → left_from needs state.count what ≡ None)
+nothing-enabled : (needs : Needs) (state : AbstractState) (me : ℕ) (what : ReleaseAmount) → (state.poisoned ≡ false → left_from needs state.count what ≡ None)
     → IsEnabled needs state me (gave_not what)
-nothing-enabled needs state me (Asked request) none = none
+nothing-enabled needs state me (Requested request) none = none
 nothing-enabled needs state me AllButAShare none =
     λ owned.
     let nothing : left_from needs state.count AllButAShare ≡ None = none owned.0 in
     let share : left_from needs state.count AllButAShare ≡ Some 1 = rw (owned.2, owned.1) refl in
     absurd (cc)
 
-nothing-after : (needs : Needs) (state : AbstractState) (me : ℕ) (what : Given) → after_event needs state me (gave_not what) ≡ state
-nothing-after needs state me (Asked request) = refl
+nothing-after : (needs : Needs) (state : AbstractState) (me : ℕ) (what : ReleaseAmount) → after_event needs state me (gave_not what) ≡ state
+nothing-after needs state me (Requested request) = refl
 nothing-after needs state me AllButAShare = refl
 
-nothing-named : (what : Given) → named (gave_not what ∷ []) ≡ gave_not what ∷ []
-nothing-named (Asked request) = refl
+nothing-named : (what : ReleaseAmount) → named (gave_not what ∷ []) ≡ gave_not what ∷ []
+nothing-named (Requested request) = refl
 nothing-named AllButAShare = refl
 
-nothing-calm : (what : Given) → never_poisons (gave_not what ∷ []) ≡ true
-nothing-calm (Asked request) = refl
+nothing-calm : (what : ReleaseAmount) → never_poisons (gave_not what ∷ []) ≡ true
+nothing-calm (Requested request) = refl
 nothing-calm AllButAShare = refl
 
 -- what is left is the count behind its event
-gave-enabled : (needs : Needs) (state : AbstractState) (me : ℕ) (what : Given) (left : ℕ) → state.poisoned ≡ false
+gave-enabled : (needs : Needs) (state : AbstractState) (me : ℕ) (what : ReleaseAmount) (left : ℕ) → state.poisoned ≡ false
     → left_from needs state.count what ≡ Some left → IsEnabled needs state me (gave what)
-gave-enabled needs state me (Asked request) left calm is = (calm, (left, is))
+gave-enabled needs state me (Requested request) left calm is = (calm, (left, is))
 gave-enabled needs state me AllButAShare left calm is =
     let share = left-share needs state.count left is in (calm, share.1.0, share.1.1)
 
-gave-after : (needs : Needs) (state : AbstractState) (me : ℕ) (what : Given) (left : ℕ) → left_from needs state.count what ≡ Some left
+gave-after : (needs : Needs) (state : AbstractState) (me : ℕ) (what : ReleaseAmount) (left : ℕ) → left_from needs state.count what ≡ Some left
     → after_event needs state me (gave what) ≡ record state { count = left; unclosed = not (is_empty state.line) || state.unclosed }
-gave-after needs state me (Asked request) left is =
+gave-after needs state me (Requested request) left is =
     ap (λ (n : ℕ). record state { count = n; unclosed = not (is_empty state.line) || state.unclosed }) (ap (count_or state.count) is)
 gave-after needs state me AllButAShare left is =
     ap (λ (n : ℕ). record state { count = n; unclosed = not (is_empty state.line) || state.unclosed }) (sym (left-share needs state.count left is).0)
 
-gave-named : (what : Given) → named (gave what ∷ []) ≡ gave what ∷ []
-gave-named (Asked request) = refl
+gave-named : (what : ReleaseAmount) → named (gave what ∷ []) ≡ gave what ∷ []
+gave-named (Requested request) = refl
 gave-named AllButAShare = refl
 
-gave-calm : (what : Given) → never_poisons (gave what ∷ []) ≡ true
-gave-calm (Asked request) = refl
+gave-calm : (what : ReleaseAmount) → never_poisons (gave what ∷ []) ≡ true
+gave-calm (Requested request) = refl
 gave-calm AllButAShare = refl
 
 -- a place that gave nothing back is in no call
-quiet-nothing : (place : Place) (back : Back) → place_after place (gave_nothing place back) ≡ record place { stage = Quiet }
+quiet-nothing : (place : Place) (back : AfterWalk) → place_after place (gave_nothing place back) ≡ record place { stage = Quiet }
 quiet-nothing place Tells = refl
 quiet-nothing place Ends = refl
 quiet-nothing place (Takes request) = refl
 
 -- A release of what isn't held, or of a poisoned lock
 nothing-outcome : (needs : Needs) (places : ℕ) (row : ℕ → ℕ) (standing : ℕ → Place) (state : AbstractState) (me : ℕ)
-    → (s : Refines needs places row standing state) → is_holder (standing me).stage ≡ false → s.owed me ≡ []
-    → (what : Given) → IsEnabled needs state me (gave_not what)
+    → (s : Invariant needs places row standing state) → is_holder (standing me).stage ≡ false → s.owed me ≡ []
+    → (what : ReleaseAmount) → IsEnabled needs state me (gave_not what)
     → Outcome needs places row standing state me (gave_nothing (standing me) (standing me).back) (gave_not what ∷ [])
 nothing-outcome needs places row standing state me s none nothing what allowed = record {
   events = gave_not what ∷ [];
@@ -91,15 +91,15 @@ nothing-outcome needs places row standing state me s none nothing what allowed =
   run = (allowed, nothing-after needs state me what);
   names = nothing-named what;
   calm = λ semaphore. nothing-calm what;
-  stands = subst (λ (p : Place). Refines needs places row (updated standing me p) state) (sym (quiet-nothing (standing me) (standing me).back))
+  stands = subst (λ (p : Place). Invariant needs places row (updated standing me p) state) (sym (quiet-nothing (standing me) (standing me).back))
       (moved needs places row standing state me s (record (standing me) { stage = Quiet }) (λ out. refl) refl
       tt tt (λ gives. absurd (cc)) tt nothing (sym none) (λ it. absurd (not-holder needs places row standing state me s none it)));
 }
 
 -- A release that is decided by the main word as it stands
 given-outcome : (needs : Needs) (places : ℕ) (row : ℕ → ℕ) (standing : ℕ → Place) (state : AbstractState) (me : ℕ)
-    → (s : Refines needs places row standing state) → is_holder (standing me).stage ≡ false → s.owed me ≡ []
-    → takes_back (standing me).back ≡ false → (what : Given) (poisoned : Bool) (left : Option ℕ)
+    → (s : Invariant needs places row standing state) → is_holder (standing me).stage ≡ false → s.owed me ≡ []
+    → takes_back (standing me).back ≡ false → (what : ReleaseAmount) (poisoned : Bool) (left : Option ℕ)
     → (main_of row).is_poisoned ≡ poisoned → left_from needs (main_of row).count what ≡ left
     → Outcome needs places row standing state me
     (if poisoned then gave_nothing (standing me) (standing me).back else given_to (standing me) what (main_of row) left)
@@ -123,11 +123,11 @@ given-outcome needs places row standing state me s none nothing ends what false 
 
 -- A call that is to give back looks at the main word
 pub step-ReleaseLoad : (needs : Needs) → AreNeeds needs → needs.top < 2 ^ count_bits → (places : ℕ) (row : ℕ → ℕ) (standing : ℕ → Place) (state : AbstractState) (me : ℕ)
-    → places < 65536 → (s : Refines needs places row standing state)
-    → (what : Given) → (standing me).stage ≡ ReleaseLoad what → StepRefines needs places row standing state me (ReleaseLoad what)
+    → places < 65536 → (s : Invariant needs places row standing state)
+    → (what : ReleaseAmount) → (standing me).stage ≡ ReleaseLoad what → StepRefines needs places row standing state me (ReleaseLoad what)
 step-ReleaseLoad needs lawful wide places row standing state me room s what at =
     let ends : takes_back (standing me).back ≡ false =
-    subst (λ stage. IsAlone needs (standing me).registration (standing me).back stage) at (s.stages.alone me) in
+    subst (λ stage. IsLocallyTrue needs (standing me).registration (standing me).back stage) at (s.stages.alone me) in
     let out = given-outcome needs places row standing state me s (ap is_holder at)
     (subst (λ stage. IsShowing (s.owed me) (s.answer_value me) stage) at (s.stages.showing me)) ends
     what (main_of row).is_poisoned (left_from needs (main_of row).count what) refl refl in
@@ -140,17 +140,17 @@ unopened (asker ∷ rest) other closed = absurd (cc)
 
 -- Something is given back: the count falls; which place holds the flag afterwards, and what this place does then, is said by the premises
 given-back : (needs : Needs) → AreNeeds needs → needs.top < 2 ^ count_bits → (places : ℕ) (row : ℕ → ℕ) (standing : ℕ → Place) (state : AbstractState) (me : ℕ)
-    → (s : Refines needs places row standing state)
-    → (what : Given) (left : ℕ) (seen : Word) → seen.tail < 65536 → seen.is_poisoned ≡ false → main_of row ≡ seen → left_from needs seen.count what ≡ Some left
+    → (s : Invariant needs places row standing state)
+    → (what : ReleaseAmount) (left : ℕ) (seen : Word) → seen.tail < 65536 → seen.is_poisoned ≡ false → main_of row ≡ seen → left_from needs seen.count what ≡ Some left
     → (stage : Stage) (holder : ℕ) → joins_line stage ≡ false
-    → IsRanged needs stage → IsAlone needs (standing me).registration (standing me).back stage → gives_up (standing me).back stage ≡ false
+    → IsRanged needs stage → IsLocallyTrue needs (standing me).registration (standing me).back stage → gives_up (standing me).back stage ≡ false
     → ((word : LineWord) → IsOwn word stage) → IsShowing (s.owed me) (s.answer_value me) stage
     → is_holder stage ≡ (holder == me + 1)
     → (holder ≡ me + 1 → IsHolding needs (line_of row) me left state.line s.cut stage)
     → ((other : ℕ) → (other ≡ me → ⊥) → (s.holder == other + 1) ≡ (holder == other + 1))
     → (seen.is_flagged || not (seen.tail == 0)) ≡ not (holder == 0)
     → ((holder == 0) ≡ true → (is_empty state.line ≡ true) × (s.holder == 0 ≡ true))
-    → Refines needs places (updated row 0 (word_number count_bits (released needs seen what))) (updated standing me (record (standing me) { stage = stage }))
+    → Invariant needs places (updated row 0 (word_number count_bits (released needs seen what))) (updated standing me (record (standing me) { stage = stage }))
     (record state { count = left; unclosed = not (is_empty state.line) || state.unclosed })
 given-back needs lawful wide places row standing state me s what left seen tail_small clean is left_is stage holder never ranged alone stays own showing
     one holding ones flag nobody =
@@ -212,13 +212,13 @@ no-tail false false test clear = absurd (cc)
 
 -- A call that gives back lowers the count, and works on the line where there are waiters and nobody works on it
 pub step-ReleaseExchange : (needs : Needs) → AreNeeds needs → needs.top < 2 ^ count_bits → (places : ℕ) (row : ℕ → ℕ) (standing : ℕ → Place) (state : AbstractState) (me : ℕ)
-    → places < 65536 → (s : Refines needs places row standing state)
-    → (what : Given) (seen : Word) → (standing me).stage ≡ ReleaseExchange what seen
+    → places < 65536 → (s : Invariant needs places row standing state)
+    → (what : ReleaseAmount) (seen : Word) → (standing me).stage ≡ ReleaseExchange what seen
     → StepRefines needs places row standing state me (ReleaseExchange what seen)
 step-ReleaseExchange needs lawful wide places row standing state me room s what seen at =
-    let back : Back = (standing me).back in
-    let alone : IsAlone needs (standing me).registration back (ReleaseExchange what seen) =
-    subst (λ stage. IsAlone needs (standing me).registration back stage) at (s.stages.alone me) in
+    let back : AfterWalk = (standing me).back in
+    let alone : IsLocallyTrue needs (standing me).registration back (ReleaseExchange what seen) =
+    subst (λ stage. IsLocallyTrue needs (standing me).registration back stage) at (s.stages.alone me) in
     let returning = returning-any (standing me).registration back alone.3 in
     let ranged : IsRanged needs (ReleaseExchange what seen) = subst (λ stage. IsRanged needs stage) at (s.stages.ranged me) in
     let none : is_holder (standing me).stage ≡ false = ap is_holder at in

@@ -10,13 +10,13 @@ use Rattle.saa_core_words.specs.Words.{count_bits, word_number, word_of, line_wo
 use Rattle.saa_core_words.proofs.Words.{word-read}
 use Rattle.saa_word_steps.specs.declared.place.Place.{Place}
 use Rattle.saa_word_steps.specs.declared.place.Registration.{Registration}
-use Rattle.saa_word_steps.specs.declared.place.Back.{Back}
+use Rattle.saa_word_steps.specs.declared.place.AfterWalk.{AfterWalk}
 use Rattle.saa_word_steps.specs.declared.place.Stage.{Stage}
-use Rattle.saa_word_steps.specs.declared.place.Stage.TheVariants.{Quiet, ReadLoad, AskLoad, AskExchange, Prepare, Join, ReleaseLoad, ReleaseExchange, BackLoad, BackStore, Forward, CutToClose, CutToGoRound, Close, Empty, GoRound, ShowLoad, ShowStore, Take, FlagLoad, FlagExchange, LookLoad, LookStore, Unlink, DropTail, PoisonLoad, PoisonExchange, Clear}
+use Rattle.saa_word_steps.specs.declared.place.Stage.TheVariants.{Quiet, ReadLoad, AcquireLoad, AcquireExchange, Prepare, Join, ReleaseLoad, ReleaseExchange, BackLoad, BackStore, Forward, CutToClose, CutForRetry, Close, Empty, Retry, ShowLoad, ShowStore, Take, FlagLoad, FlagExchange, LookLoad, LookStore, Unlink, DropTail, PoisonLoad, PoisonExchange, Clear}
 use Rattle.saa_word_steps.specs.Needs.{Needs}
 use Rattle.saa_word_steps.specs.AbstractState.{AbstractState, is_in, held_by}
 use Rattle.saa_word_steps.specs.Steps.{IsRanged, IsSmall}
-use Rattle.saa_word_proofs.specs.Refinement.{joins_line, is_holder, gives_up, IsAlone, IsOwn, IsShowing, IsHolding, AreSeats, Refines}
+use Rattle.saa_word_proofs.specs.Refinement.{joins_line, is_holder, gives_up, IsLocallyTrue, IsOwn, IsShowing, IsHolding, AreSeats, Invariant}
 use Rattle.saa_word_proofs.specs.Rows.{line_of, updated}
 use Rattle.saa_word_proofs.specs.Registering.{is_slot}
 use Rattle.saa_word_proofs.proofs.RefinementLemmas.Lists.{each-updated, all-same, updated-same, updated-at, updated-other}
@@ -72,12 +72,12 @@ row-other row at number other apart =
     updated-other row at number other test
 
 -- a place that is registered in the line isn't about to join
-pub own-any : (needs : Needs) (registration : Registration) (back : Back) (stage : Stage) (word : LineWord)
-    → IsAlone needs registration back stage → is_slot registration ≡ true → IsOwn word stage
+pub own-any : (needs : Needs) (registration : Registration) (back : AfterWalk) (stage : Stage) (word : LineWord)
+    → IsLocallyTrue needs registration back stage → is_slot registration ≡ true → IsOwn word stage
 own-any needs registration back Quiet word alone slot = tt
 own-any needs registration back (ReadLoad reading) word alone slot = tt
-own-any needs registration back (AskLoad ask) word alone slot = tt
-own-any needs registration back (AskExchange ask seen) word alone slot = tt
+own-any needs registration back (AcquireLoad ask) word alone slot = tt
+own-any needs registration back (AcquireExchange ask seen) word alone slot = tt
 own-any needs registration back (Prepare request seen) word alone slot = tt
 own-any needs registration back (Join request seen) word alone slot = let wrong : true ≡ false = sym slot ∙ alone.1 in absurd (cc)
 own-any needs registration back (ReleaseLoad given) word alone slot = tt
@@ -86,10 +86,10 @@ own-any needs registration back (BackLoad seen current newer) word alone slot = 
 own-any needs registration back (BackStore seen current newer line) word alone slot = tt
 own-any needs registration back (Forward seen current count) word alone slot = tt
 own-any needs registration back (CutToClose seen current count line) word alone slot = tt
-own-any needs registration back (CutToGoRound seen current count line) word alone slot = tt
+own-any needs registration back (CutForRetry seen current count line) word alone slot = tt
 own-any needs registration back (Close seen count top) word alone slot = tt
 own-any needs registration back (Empty seen current count line) word alone slot = tt
-own-any needs registration back (GoRound seen count top) word alone slot = tt
+own-any needs registration back (Retry seen count top) word alone slot = tt
 own-any needs registration back (ShowLoad current value afterwards) word alone slot = tt
 own-any needs registration back (ShowStore current next value afterwards) word alone slot = tt
 own-any needs registration back (Take taking) word alone slot = tt
@@ -114,19 +114,19 @@ seats-next places standing state me place was free same = record {
 }
 
 -- who takes its own answer next stands in no line
-pub apart-at : (needs : Needs) (places : ℕ) (row : ℕ → ℕ) (standing : ℕ → Place) (state : AbstractState) (me : ℕ) → Refines needs places row standing state
+pub apart-at : (needs : Needs) (places : ℕ) (row : ℕ → ℕ) (standing : ℕ → Place) (state : AbstractState) (me : ℕ) → Invariant needs places row standing state
     → (stage : Stage) → (standing me).stage ≡ stage → gives_up (standing me).back stage ≡ true → is_in me state.line ≡ false
 apart-at needs places row standing state me s stage at gives = s.stages.apart me (ap (gives_up (standing me).back) at ∙ gives)
 
 -- A step that leaves words and object as they are
-pub moved : (needs : Needs) (places : ℕ) (row : ℕ → ℕ) (standing : ℕ → Place) (state : AbstractState) (me : ℕ) (s : Refines needs places row standing state) (place : Place)
+pub moved : (needs : Needs) (places : ℕ) (row : ℕ → ℕ) (standing : ℕ → Place) (state : AbstractState) (me : ℕ) (s : Invariant needs places row standing state) (place : Place)
     → (places ≤ me → joins_line place.stage ≡ false) → is_slot place.registration ≡ is_slot (standing me).registration
-    → IsRanged needs place.stage → IsAlone needs place.registration place.back place.stage
+    → IsRanged needs place.stage → IsLocallyTrue needs place.registration place.back place.stage
     → (gives_up place.back place.stage ≡ true → is_in me state.line ≡ false)
     → IsOwn (line_of row me) place.stage → IsShowing (s.owed me) (s.answer_value me) place.stage
     → is_holder place.stage ≡ is_holder (standing me).stage
     → (s.holder ≡ me + 1 → IsHolding needs (line_of row) me state.count state.line s.cut place.stage)
-    → Refines needs places row (updated standing me place) state
+    → Invariant needs places row (updated standing me place) state
 moved needs places row standing state me s place free same ranged alone apart own showing holder holding = record {
   holder = s.holder;
   cut = s.cut;
@@ -147,6 +147,6 @@ moved needs places row standing state me s place free same ranged alone apart ow
 
 -- a step that only loads leaves the row
 pub loaded : (needs : Needs) (places : ℕ) (row : ℕ → ℕ) (standing : ℕ → Place) (state : AbstractState) (at : ℕ)
-    → Refines needs places row standing state → Refines needs places (updated row at (row at)) standing state
+    → Invariant needs places row standing state → Invariant needs places (updated row at (row at)) standing state
 loaded needs places row standing state at s =
-    subst (λ (r : ℕ → ℕ). Refines needs places r standing state) (sym (updated-same row at (row at) refl)) s
+    subst (λ (r : ℕ → ℕ). Invariant needs places r standing state) (sym (updated-same row at (row at) refl)) s

@@ -7,15 +7,15 @@ use Rattle.saa_core_spec.proofs.Counts.{number_same, same_number, number_other, 
 use Rattle.saa_core_words.specs.declared.line_word.LineWord.{LineWord}
 use Rattle.saa_core_words.specs.Words.{count_bits, line_word_of, answer_number}
 use Rattle.saa_word_steps.specs.declared.place.Place.{Place}
-use Rattle.saa_word_steps.specs.declared.place.Afterwards.{Afterwards}
-use Rattle.saa_word_steps.specs.declared.place.Afterwards.TheVariants.{Ends, Again}
+use Rattle.saa_word_steps.specs.declared.place.AfterShow.{AfterShow}
+use Rattle.saa_word_steps.specs.declared.place.AfterShow.TheVariants.{Ends, Again}
 use Rattle.saa_word_steps.specs.declared.place.Stage.{Stage}
 use Rattle.saa_word_steps.specs.declared.place.Stage.TheVariants.{Join, ShowLoad, ShowStore}
 use Rattle.saa_word_steps.specs.Needs.{Needs, AreNeeds}
 use Rattle.saa_word_steps.specs.AbstractState.{AbstractState, is_in, held_by, with_answer}
 use Rattle.saa_word_steps.specs.Steps.{IsRanged}
 use Rattle.saa_word_steps.proofs.AbstractRuns.{waits-some}
-use Rattle.saa_word_proofs.specs.Refinement.{joins_line, newest, is_holder, gives_up, IsAlone, IsOwn, IsShowing, IsHolding, IsMain, IsLine, AreSeats, AreAnswers, AreDebts, Refines}
+use Rattle.saa_word_proofs.specs.Refinement.{joins_line, newest, is_holder, gives_up, IsLocallyTrue, IsOwn, IsShowing, IsHolding, IsMain, IsLine, AreSeats, AreAnswers, AreDebts, Invariant}
 use Rattle.saa_word_proofs.specs.Rows.{IsBehind, line_of, updated}
 use Rattle.saa_word_proofs.specs.Registering.{is_slot}
 use Rattle.saa_word_proofs.specs.StepRefinement.{StepRefines}
@@ -29,61 +29,61 @@ slot-of true some = refl
 slot-of false some = absurd (omega (arith, some))
 
 -- each member of a line is one of the places
-pub line-inside : (needs : Needs) (places : ℕ) (row : ℕ → ℕ) (standing : ℕ → Place) (state : AbstractState) (s : Refines needs places row standing state) (other : ℕ)
+pub line-inside : (needs : Needs) (places : ℕ) (row : ℕ → ℕ) (standing : ℕ → Place) (state : AbstractState) (s : Invariant needs places row standing state) (other : ℕ)
     → 0 < times other state.line → other < places
 line-inside needs places row standing state s other there =
     s.seats.within other (slot-of (is_slot (standing other).registration) (omega (arith, there, s.seats.held other)))
 
 -- so is each place that is owed an answer
-pub due-inside : (needs : Needs) (places : ℕ) (row : ℕ → ℕ) (standing : ℕ → Place) (state : AbstractState) (s : Refines needs places row standing state) (place other : ℕ)
+pub due-inside : (needs : Needs) (places : ℕ) (row : ℕ → ℕ) (standing : ℕ → Place) (state : AbstractState) (s : Invariant needs places row standing state) (place other : ℕ)
     → is_in other (s.owed place) ≡ true → other < places
 due-inside needs places row standing state s place other there =
     let due : one_if (is_some (state.due other)) ≡ 1 = ap (λ (a : Option ℕ). one_if (is_some a)) (s.debts.due_to place other there).1 in
     s.seats.within other (slot-of (is_slot (standing other).registration) (omega (arith, due, s.seats.held other)))
 
 -- what the holder knows is so of the store that follows a load
-after-load : (needs : Needs) (words : ℕ → LineWord) (me held : ℕ) (line cut : List (ℕ × ℕ)) (current other next value : ℕ) (afterwards : Afterwards)
+after-load : (needs : Needs) (words : ℕ → LineWord) (me held : ℕ) (line cut : List (ℕ × ℕ)) (current other next value : ℕ) (afterwards : AfterShow)
     → IsHolding needs words me held line cut (ShowLoad current value afterwards) → IsHolding needs words me held line cut (ShowStore other next value afterwards)
 after-load needs words me held line cut current other next value Ends h = h
 after-load needs words me held line cut current other next value (Again seen) h = h
 
 -- and of the load that follows a store
-pub after-store : (needs : Needs) (words : ℕ → LineWord) (me held : ℕ) (line cut : List (ℕ × ℕ)) (current other next value : ℕ) (afterwards : Afterwards)
+pub after-store : (needs : Needs) (words : ℕ → LineWord) (me held : ℕ) (line cut : List (ℕ × ℕ)) (current other next value : ℕ) (afterwards : AfterShow)
     → IsHolding needs words me held line cut (ShowStore current next value afterwards) → IsHolding needs words me held line cut (ShowLoad other value afterwards)
 after-store needs words me held line cut current other next value Ends h = h
 after-store needs words me held line cut current other next value (Again seen) h = h
 
 -- a load and the store that follows it hold the flag alike
-holder-load : (current other next value : ℕ) (afterwards : Afterwards) → is_holder (ShowStore other next value afterwards) ≡ is_holder (ShowLoad current value afterwards)
+holder-load : (current other next value : ℕ) (afterwards : AfterShow) → is_holder (ShowStore other next value afterwards) ≡ is_holder (ShowLoad current value afterwards)
 holder-load current other next value Ends = refl
 holder-load current other next value (Again seen) = refl
 
 -- and so do a store and the next load
-pub holder-store : (current other next value : ℕ) (afterwards : Afterwards) → is_holder (ShowLoad other value afterwards) ≡ is_holder (ShowStore current next value afterwards)
+pub holder-store : (current other next value : ℕ) (afterwards : AfterShow) → is_holder (ShowLoad other value afterwards) ≡ is_holder (ShowStore current next value afterwards)
 holder-store current other next value Ends = refl
 holder-store current other next value (Again seen) = refl
 
 -- what the load remembers is within its bits at the store
-ranged-load : (needs : Needs) (current other next value : ℕ) (afterwards : Afterwards)
+ranged-load : (needs : Needs) (current other next value : ℕ) (afterwards : AfterShow)
     → IsRanged needs (ShowLoad current value afterwards) → IsRanged needs (ShowStore other next value afterwards)
 ranged-load needs current other next value Ends h = h
 ranged-load needs current other next value (Again seen) h = h
 
 -- and at the next load
-pub ranged-store : (needs : Needs) (current other next value : ℕ) (afterwards : Afterwards)
+pub ranged-store : (needs : Needs) (current other next value : ℕ) (afterwards : AfterShow)
     → IsRanged needs (ShowStore current next value afterwards) → IsRanged needs (ShowLoad other value afterwards)
 ranged-store needs current other next value Ends h = h
 ranged-store needs current other next value (Again seen) h = h
 
 -- The line word of the newest that is owed is looked at
 pub step-ShowLoad : (needs : Needs) → AreNeeds needs → needs.top < 2 ^ count_bits → (places : ℕ) (row : ℕ → ℕ) (standing : ℕ → Place) (state : AbstractState) (me : ℕ)
-    → places < 65536 → (s : Refines needs places row standing state)
-    → (current value : ℕ) (afterwards : Afterwards) → (standing me).stage ≡ ShowLoad current value afterwards
+    → places < 65536 → (s : Invariant needs places row standing state)
+    → (current value : ℕ) (afterwards : AfterShow) → (standing me).stage ≡ ShowLoad current value afterwards
     → StepRefines needs places row standing state me (ShowLoad current value afterwards)
 step-ShowLoad needs lawful wide places row standing state me room s current value afterwards at =
     let stage : Stage = ShowLoad current value afterwards in
-    let alone : IsAlone needs (standing me).registration (standing me).back stage =
-    subst (λ stage. IsAlone needs (standing me).registration (standing me).back stage) at (s.stages.alone me) in
+    let alone : IsLocallyTrue needs (standing me).registration (standing me).back stage =
+    subst (λ stage. IsLocallyTrue needs (standing me).registration (standing me).back stage) at (s.stages.alone me) in
     let ranged : IsRanged needs stage = subst (λ stage. IsRanged needs stage) at (s.stages.ranged me) in
     let showing : IsShowing (s.owed me) (s.answer_value me) stage = subst (λ stage. IsShowing (s.owed me) (s.answer_value me) stage) at (s.stages.showing me) in
     let split = split-last (s.owed me) showing.1 in
@@ -115,7 +115,7 @@ line-answer row places at number place inside some =
     ap line_word_of (row-other row (places + at) number (place + 1) (λ is. absurd (omega (arith, is, inside, some))))
 
 -- the line words link the line once an answer word was written
-pub line-shown : (needs : Needs) (places : ℕ) (row : ℕ → ℕ) (standing : ℕ → Place) (state : AbstractState) (s : Refines needs places row standing state) (at number : ℕ)
+pub line-shown : (needs : Needs) (places : ℕ) (row : ℕ → ℕ) (standing : ℕ → Place) (state : AbstractState) (s : Invariant needs places row standing state) (at number : ℕ)
     → 0 < at → IsLine (line_of (updated row (places + at) number)) state.line s.cut s.uncut
 line-shown needs places row standing state s at number some =
     let new : ℕ → LineWord = line_of (updated row (places + at) number) in
@@ -138,7 +138,7 @@ own-free word (Join request seen) never = absurd (cc)
 own-free word stage never = tt
 
 -- and each place's own line word says what it did
-pub own-shown : (needs : Needs) (places : ℕ) (row : ℕ → ℕ) (standing : ℕ → Place) (state : AbstractState) (s : Refines needs places row standing state) (at number : ℕ)
+pub own-shown : (needs : Needs) (places : ℕ) (row : ℕ → ℕ) (standing : ℕ → Place) (state : AbstractState) (s : Invariant needs places row standing state) (at number : ℕ)
     → 0 < at → (other : ℕ) → IsOwn (line_of (updated row (places + at) number) other) (standing other).stage
 own-shown needs places row standing state s at number some other =
     elim (cases_Bool (nat_lt other places)) [
@@ -151,7 +151,7 @@ own-shown needs places row standing state s at number some other =
     ]
 
 -- and what the holder knows of the line is so
-pub holding-shown : (needs : Needs) (places : ℕ) (row : ℕ → ℕ) (standing : ℕ → Place) (state : AbstractState) (s : Refines needs places row standing state) (at number : ℕ)
+pub holding-shown : (needs : Needs) (places : ℕ) (row : ℕ → ℕ) (standing : ℕ → Place) (state : AbstractState) (s : Invariant needs places row standing state) (at number : ℕ)
     → 0 < at → (place : ℕ) (stage : Stage) → IsHolding needs (line_of row) place state.count state.line s.cut stage
     → IsHolding needs (line_of (updated row (places + at) number)) place state.count state.line s.cut stage
 holding-shown needs places row standing state s at number some mine stage h =
@@ -159,7 +159,7 @@ holding-shown needs places row standing state s at number some mine stage h =
     (sym (append-nil state.line)) refl (λ place there. line-answer row places at number place (line-inside needs places row standing state s place there) some) h
 
 -- an object whose answers alone changed has the same main word
-pub main-shown : (needs : Needs) (places : ℕ) (row : ℕ → ℕ) (standing : ℕ → Place) (state : AbstractState) (s : Refines needs places row standing state) (at number : ℕ)
+pub main-shown : (needs : Needs) (places : ℕ) (row : ℕ → ℕ) (standing : ℕ → Place) (state : AbstractState) (s : Invariant needs places row standing state) (at number : ℕ)
     (due shown : ℕ → Option ℕ) → 0 < at → IsMain needs (updated row (places + at) number 0) (record state { due = due; shown = shown }) s.holder
 main-shown needs places row standing state s at number due shown some =
     subst (λ (n : ℕ). IsMain needs n (record state { due = due; shown = shown }) s.holder) (sym (row-other row (places + at) number 0 (λ is. absurd (omega (arith, is, some)))))
@@ -176,7 +176,7 @@ main-shown needs places row standing state s at number due shown some =
     })
 
 -- an answer that is shown holds its place as it did
-held-shown : (needs : Needs) (places : ℕ) (row : ℕ → ℕ) (standing : ℕ → Place) (state : AbstractState) (s : Refines needs places row standing state) (asker value : ℕ)
+held-shown : (needs : Needs) (places : ℕ) (row : ℕ → ℕ) (standing : ℕ → Place) (state : AbstractState) (s : Invariant needs places row standing state) (asker value : ℕ)
     → state.due asker ≡ Some value → (other : ℕ)
     → held_by other (record state { due = with_answer asker None state.due; shown = with_answer asker (state.due asker) state.shown }) ≡ one_if (is_slot (standing other).registration)
 held-shown needs places row standing state s asker value due other =
@@ -190,7 +190,7 @@ held-shown needs places row standing state s asker value due other =
     ]
 
 -- the same seats, for other answers that hold each place as they did
-seats-shown : (needs : Needs) (places : ℕ) (row : ℕ → ℕ) (standing : ℕ → Place) (state last : AbstractState) (s : Refines needs places row standing state) (me : ℕ) (place : Place)
+seats-shown : (needs : Needs) (places : ℕ) (row : ℕ → ℕ) (standing : ℕ → Place) (state last : AbstractState) (s : Invariant needs places row standing state) (me : ℕ) (place : Place)
     → (places ≤ me → joins_line place.stage ≡ false) → is_slot place.registration ≡ is_slot (standing me).registration
     → ((other : ℕ) → held_by other last ≡ one_if (is_slot (standing other).registration)) → AreSeats places (updated standing me place) last
 seats-shown needs places row standing state last s me place free same held = record {
@@ -200,7 +200,7 @@ seats-shown needs places row standing state last s me place free same held = rec
 }
 
 -- the answer words once an answer is shown
-answers-shown : (needs : Needs) (places : ℕ) (row : ℕ → ℕ) (standing : ℕ → Place) (state : AbstractState) (s : Refines needs places row standing state)
+answers-shown : (needs : Needs) (places : ℕ) (row : ℕ → ℕ) (standing : ℕ → Place) (state : AbstractState) (s : Invariant needs places row standing state)
     (asker value : ℕ) → state.due asker ≡ Some value → value < 256
     → AreAnswers places (updated row (places + (asker + 1)) (answer_number (Some value))) (with_answer asker (state.due asker) state.shown)
 answers-shown needs places row standing state s asker value due fits = record {
@@ -225,7 +225,7 @@ answers-shown needs places row standing state s asker value due fits = record {
 }
 
 -- what is owed once the newest of what a place owed is shown
-debts-shown : (needs : Needs) (places : ℕ) (row : ℕ → ℕ) (standing : ℕ → Place) (state : AbstractState) (s : Refines needs places row standing state) (me : ℕ)
+debts-shown : (needs : Needs) (places : ℕ) (row : ℕ → ℕ) (standing : ℕ → Place) (state : AbstractState) (s : Invariant needs places row standing state) (me : ℕ)
     (before : List (ℕ × ℕ)) (asker : ℕ × ℕ) (number : ℕ) → s.owed me ≡ before ++ asker ∷ []
     → AreDebts (line_of (updated row (places + (asker.0 + 1)) number)) (with_answer asker.0 None state.due) state.granter (updated s.owed me before) s.answer_value
 debts-shown needs places row standing state s me before asker number is =
@@ -298,12 +298,12 @@ debts-shown needs places row standing state s me before asker number is =
 
 -- An answer is shown, whatever the place does next
 pub shown : (needs : Needs) (places : ℕ) (row : ℕ → ℕ) (standing : ℕ → Place) (state : AbstractState) (me : ℕ)
-    → (s : Refines needs places row standing state) (before : List (ℕ × ℕ)) (asker : ℕ × ℕ) → s.owed me ≡ before ++ asker ∷ []
-    → (stage : Stage) → joins_line stage ≡ false → IsRanged needs stage → IsAlone needs (standing me).registration (standing me).back stage
+    → (s : Invariant needs places row standing state) (before : List (ℕ × ℕ)) (asker : ℕ × ℕ) → s.owed me ≡ before ++ asker ∷ []
+    → (stage : Stage) → joins_line stage ≡ false → IsRanged needs stage → IsLocallyTrue needs (standing me).registration (standing me).back stage
     → (gives_up (standing me).back stage ≡ true → is_in me state.line ≡ false) → ((word : LineWord) → IsOwn word stage) → IsShowing before (s.answer_value me) stage
     → is_holder stage ≡ is_holder (standing me).stage
     → (s.holder ≡ me + 1 → IsHolding needs (line_of row) me state.count state.line s.cut stage)
-    → Refines needs places (updated row (places + (asker.0 + 1)) (answer_number (Some (s.answer_value me)))) (updated standing me (record (standing me) { stage = stage }))
+    → Invariant needs places (updated row (places + (asker.0 + 1)) (answer_number (Some (s.answer_value me)))) (updated standing me (record (standing me) { stage = stage }))
     (record state { due = with_answer asker.0 None state.due; shown = with_answer asker.0 (state.due asker.0) state.shown })
 shown needs places row standing state me s before asker is stage never ranged alone apart own showing holder holding =
     let number : ℕ = answer_number (Some (s.answer_value me)) in

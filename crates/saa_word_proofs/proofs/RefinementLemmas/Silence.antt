@@ -4,8 +4,8 @@ use Rattle.saa_core_spec.specs.Held.{Exclusive}
 use Rattle.saa_core_words.specs.declared.word.Word.{Word}
 use Rattle.saa_core_words.specs.Words.{count_bits, word_number, word_of, answer_of, lock_count}
 use Rattle.saa_word_steps.specs.declared.place.Place.{Place}
-use Rattle.saa_word_steps.specs.declared.place.Taking.{Taking}
-use Rattle.saa_word_steps.specs.declared.place.Taking.TheVariants.{Tries, Awaits, Gives}
+use Rattle.saa_word_steps.specs.declared.place.PollMode.{PollMode}
+use Rattle.saa_word_steps.specs.declared.place.PollMode.TheVariants.{Tries, Awaits, Gives}
 use Rattle.saa_word_steps.specs.declared.place.Stage.{Stage}
 use Rattle.saa_word_steps.specs.declared.place.Stage.TheVariants.{Take, FlagLoad, FlagExchange, PoisonLoad, PoisonExchange}
 use Rattle.saa_word_steps.specs.declared.place.Next.{Next}
@@ -13,7 +13,7 @@ use Rattle.saa_word_steps.specs.declared.place.Next.TheVariants.{Going, Waits, D
 use Rattle.saa_word_steps.specs.Needs.{Needs, AreNeeds}
 use Rattle.saa_word_steps.specs.AbstractState.{AbstractState}
 use Rattle.saa_word_steps.specs.Steps.{word_at, operation_of, next_of, taken_answer, poisoning}
-use Rattle.saa_word_proofs.specs.Refinement.{Refines}
+use Rattle.saa_word_proofs.specs.Refinement.{Invariant}
 use Rattle.saa_word_proofs.specs.Rows.{updated}
 use Rattle.saa_word_proofs.specs.StepRefinement.{StepRefines, named_at, place_after, poisoning_events, row_after, taken_events}
 use Rattle.saa_word_proofs.proofs.RefinementLemmas.Lists.{updated-same}
@@ -22,7 +22,7 @@ use Rattle.saa_word_proofs.proofs.RefinementLemmas.Steps.{step-anyone}
 
 -- What it names
 
-unnamed-taking : (needs : Needs) (place : Place) (taking : Taking) (answer : Option ℕ) → taken_answer needs place taking answer ≡ Waits
+unnamed-taking : (needs : Needs) (place : Place) (taking : PollMode) (answer : Option ℕ) → taken_answer needs place taking answer ≡ Waits
     → taken_events taking answer ≡ []
 unnamed-taking needs place (Gives request) None waits = refl
 unnamed-taking needs place Awaits None waits = refl
@@ -50,7 +50,7 @@ unnamed needs me place stage found waits =
 
 -- a step as it is known, by how its place goes on: one that waits is no event
 silent-by : (needs : Needs) (places : ℕ) (row : ℕ → ℕ) (standing : ℕ → Place) (state : AbstractState) (me : ℕ)
-    → Refines needs places row standing state → (made : StepRefines needs places row standing state me (standing me).stage)
+    → Invariant needs places row standing state → (made : StepRefines needs places row standing state me (standing me).stage)
     → (next : Next) → next_of needs me (standing me) (standing me).stage (row (word_at (operation_of needs places me (standing me).stage))) ≡ next
     → (other : StepRefines needs places row standing state me (standing me).stage) × (next ≡ Waits → other.events ≡ [])
 silent-by needs places row standing state me s made (Going place) is = (made, λ waits. absurd (cc))
@@ -58,8 +58,8 @@ silent-by needs places row standing state me s made (Done place answer) is = (ma
 silent-by needs places row standing state me s made Waits is =
     let stage : Stage = (standing me).stage in
     let only = only-stalls-anyone needs places row standing state me s stage refl is in
-    let same : Refines needs places row (updated standing me (standing me)) state =
-    subst (λ (f : ℕ → Place). Refines needs places row f state) (sym (updated-same standing me (standing me) refl)) s in (
+    let same : Invariant needs places row (updated standing me (standing me)) state =
+    subst (λ (f : ℕ → Place). Invariant needs places row f state) (sym (updated-same standing me (standing me) refl)) s in (
       record {
         events = [];
         last = state;
@@ -68,15 +68,15 @@ silent-by needs places row standing state me s made Waits is =
         calm = λ semaphore. refl;
         inside = made.inside;
         stands =
-            subst (λ (n : Next). Refines needs places (row_after row (operation_of needs places me stage)) (updated standing me (place_after (standing me) n)) state) (sym is)
-            (subst (λ (r : ℕ → ℕ). Refines needs places r (updated standing me (standing me)) state) (sym only.1) same);
+            subst (λ (n : Next). Invariant needs places (row_after row (operation_of needs places me stage)) (updated standing me (place_after (standing me) n)) state) (sym is)
+            (subst (λ (r : ℕ → ℕ). Invariant needs places r (updated standing me (standing me)) state) (sym only.1) same);
       },
       λ waits. refl,
     )
 
 -- The step of a place or of a visitor
 pub silent-step-anyone : (needs : Needs) → AreNeeds needs → needs.top < 2 ^ count_bits → (places : ℕ) (row : ℕ → ℕ) (standing : ℕ → Place) (state : AbstractState) (me : ℕ)
-    → places < 65536 → Refines needs places row standing state
+    → places < 65536 → Invariant needs places row standing state
     → (made : StepRefines needs places row standing state me (standing me).stage)
     × (next_of needs me (standing me) (standing me).stage (row (word_at (operation_of needs places me (standing me).stage))) ≡ Waits → made.events ≡ [])
 silent-step-anyone needs lawful wide places row standing state me room s =
@@ -85,7 +85,7 @@ silent-step-anyone needs lawful wide places row standing state me room s =
 
 -- the same at a place
 pub silent-step : (needs : Needs) → AreNeeds needs → needs.top < 2 ^ count_bits → (places : ℕ) (row : ℕ → ℕ) (standing : ℕ → Place) (state : AbstractState) (me : ℕ)
-    → places < 65536 → me < places → Refines needs places row standing state
+    → places < 65536 → me < places → Invariant needs places row standing state
     → (made : StepRefines needs places row standing state me (standing me).stage)
     × (next_of needs me (standing me) (standing me).stage (row (word_at (operation_of needs places me (standing me).stage))) ≡ Waits → made.events ≡ [])
 silent-step needs lawful wide places row standing state me room here s = silent-step-anyone needs lawful wide places row standing state me room s

@@ -10,7 +10,7 @@ use Rattle.saa_core_spec.specs.Object.{times}
 use Rattle.saa_word_steps.specs.declared.place.Place.{Place}
 use Rattle.saa_word_steps.specs.Needs.{Needs}
 use Rattle.saa_word_steps.specs.AbstractState.{AbstractState}
-use Rattle.saa_word_proofs.specs.Refinement.{newest, Work, IsAt, IsBack, IsPassed, IsLine, Refines}
+use Rattle.saa_word_proofs.specs.Refinement.{newest, Work, IsAt, IsBack, IsPassed, IsLine, Invariant}
 use Rattle.saa_word_proofs.specs.Rows.{IsBehind, line_of, updated}
 use Rattle.saa_word_proofs.proofs.RefinementLemmas.Lists.{split-last, newest-last, behind-frame, behind-rest, ahead-frame, ahead-cons}
 use Rattle.saa_word_proofs.proofs.RefinementLemmas.Frames.{newest-stands, work-front}
@@ -109,7 +109,7 @@ pub record IsStored (places : ℕ) (row : ℕ → ℕ) (state : AbstractState) (
   pub walk : IsWalked (line_of (updated row (pred current + 1) (line_number (record line { newer = newer })))) state.count state.line seen current line.older was
 
 -- what the last of the front, whose line word it knows, becomes by such a store
-pub stored : (needs : Needs) (places : ℕ) (row : ℕ → ℕ) (standing : ℕ → Place) (state : AbstractState) (s : Refines needs places row standing state)
+pub stored : (needs : Needs) (places : ℕ) (row : ℕ → ℕ) (standing : ℕ → Place) (state : AbstractState) (s : Invariant needs places row standing state)
     (seen : Word) (current newer : ℕ) (line : LineWord) (work : Work state.count state.line seen) → places < 65536 → s.cut ≡ []
     → IsBack (line_of row) work.front work.behind current newer → line ≡ line_of row (pred current)
     → IsStored places row state s.cut s.uncut seen current newer line work

@@ -9,16 +9,16 @@ use Rattle.saa_core_words.proofs.Words.{line_word-read}
 use Rattle.saa_core_spec.specs.Object.{times}
 use Rattle.saa_word_steps.specs.declared.place.Place.{Place}
 use Rattle.saa_word_steps.specs.declared.place.Registration.TheVariants.{Idle}
-use Rattle.saa_word_steps.specs.declared.place.Back.TheVariants.{Ends as EndsCall}
+use Rattle.saa_word_steps.specs.declared.place.AfterWalk.TheVariants.{Ends as EndsCall}
 use Rattle.saa_word_steps.specs.declared.place.Stage.{Stage}
 use Rattle.saa_word_steps.specs.declared.place.Stage.TheVariants.{Quiet, BackLoad, Forward, LookLoad, Unlink, DropTail}
 use Rattle.saa_word_steps.specs.declared.call.Answer.TheVariants.{Unit as Ended}
 use Rattle.saa_word_steps.specs.declared.place.Next.{Next}
 use Rattle.saa_word_steps.specs.Needs.{Needs, AreNeeds}
-use Rattle.saa_word_steps.specs.declared.event.Event.TheVariants.{Left}
+use Rattle.saa_word_steps.specs.declared.event.Event.TheVariants.{Cancelled}
 use Rattle.saa_word_steps.specs.AbstractState.{AbstractState, IsRun, IsSettledAt, is_empty}
 use Rattle.saa_word_steps.specs.Steps.{IsRanged, no_line, dropped_word, left_line, done, walking}
-use Rattle.saa_word_proofs.specs.Refinement.{newest, IsAhead, is_holder, IsAlone, IsShowing, Work, IsAdded, IsAt, IsFound, IsHolding, IsMain, IsLeaving, IsOwn, gives_up, Refines}
+use Rattle.saa_word_proofs.specs.Refinement.{newest, IsAhead, is_holder, IsLocallyTrue, IsShowing, Work, IsAdded, IsAt, IsFound, IsHolding, IsMain, IsLeaving, IsOwn, gives_up, Invariant}
 use Rattle.saa_word_proofs.specs.Rows.{IsBehind, line_of, main_of, updated}
 use Rattle.saa_word_proofs.specs.StepRefinement.{StepRefines, place_after}
 use Rattle.saa_word_proofs.specs.History.{of_place}
@@ -66,14 +66,14 @@ main-left needs number state holder before after gone was calm held parts some =
     some-rest (asker ∷ rest) behind there = refl
 
 -- What unlinking leaves, for any stage that the holder goes on at
-unlinking : (needs : Needs) (places : ℕ) (row : ℕ → ℕ) (standing : ℕ → Place) (state : AbstractState) (me : ℕ) (s : Refines needs places row standing state)
+unlinking : (needs : Needs) (places : ℕ) (row : ℕ → ℕ) (standing : ℕ → Place) (state : AbstractState) (me : ℕ) (s : Invariant needs places row standing state)
     (seen : Word) (work : Work state.count state.line seen) (newer older : ℕ) (line : LineWord) (found : IsFound me work.front older) (next : Stage)
     → me < places → is_holder (standing me).stage ≡ true → s.cut ≡ [] → IsAt (line_of row) work.behind newer → line ≡ line_of row (pred newer)
-    → IsRanged needs next → IsAlone needs Idle EndsCall next → gives_up EndsCall next ≡ false → ((word : LineWord) → IsOwn word next)
+    → IsRanged needs next → IsLocallyTrue needs Idle EndsCall next → gives_up EndsCall next ≡ false → ((word : LineWord) → IsOwn word next)
     → IsShowing (s.owed me) (s.answer_value me) next → is_holder next ≡ true
     → ((new : ℕ → LineWord) → IsAhead new work.behind
     → IsHolding needs new me state.count (found.0 ++ (work.behind ++ work.joined)) [] next)
-    → Refines needs places (updated row newer (line_number (record line { older = older })))
+    → Invariant needs places (updated row newer (line_number (record line { older = older })))
     (updated standing me (record (left_line (standing me)) { stage = next })) (left state (found.0 ++ (work.behind ++ work.joined)))
 unlinking needs places row standing state me s seen work newer older line found next here holds none at word ranged alone stays own showing holder holding =
     let mine : s.holder ≡ me + 1 = flag-held needs places row standing state me s holds in
@@ -117,7 +117,7 @@ unlinking needs places row standing state me s seen work newer older line found 
     main-left needs (row 0) state s.holder before after (me, found.1) s.main calm (λ free. omega (arith, mine, same_number s.holder 0 free)) parts
     (some-append work.behind work.joined at.1) in
     subst (λ (link : ℕ).
-    Refines needs places (updated row link number) (updated standing me (record (left_line (standing me)) { stage = next })) (left state (before ++ after)))
+    Invariant needs places (updated row link number) (updated standing me (record (left_line (standing me)) { stage = next })) (left state (before ++ after)))
     (sym there.1)
     (leaving needs places row standing state me s (pred newer + 1) number found.1 next before after s.holder here (omega (arith, seat.0)) mine parts
     (λ other out. others other (λ is. omega (arith, waits, ap (λ (n : ℕ). times n state.line) is, in-no other state.line out)))
@@ -129,7 +129,7 @@ unlinking needs places row standing state me s seen work newer older line found 
 
 -- Where there are waiters behind the holder, the first of them is linked to the place before the holder
 pub step-Unlink : (needs : Needs) → AreNeeds needs → needs.top < 2 ^ count_bits → (places : ℕ) (row : ℕ → ℕ) (standing : ℕ → Place) (state : AbstractState) (me : ℕ)
-    → places < 65536 → me < places → (s : Refines needs places row standing state)
+    → places < 65536 → me < places → (s : Invariant needs places row standing state)
     → (seen : Word) (newer : ℕ) (line : LineWord) (older : ℕ) → (standing me).stage ≡ Unlink seen newer line older
     → StepRefines needs places row standing state me (Unlink seen newer line older)
 step-Unlink needs lawful wide places row standing state me room here s seen newer line older at =
@@ -144,7 +144,7 @@ step-Unlink needs lawful wide places row standing state me room here s seen newe
     let seat = in-line places standing state (pred newer) s.seats (work-behind state.count state.line seen work (pred newer) there.0) in
     let work_now : Work state.count (before ++ after) seen = work-left me state.count older state.line seen work knows.2 knows.3.1 in
     record {
-      events = Left ∷ [];
+      events = Cancelled ∷ [];
       last = left state (before ++ after);
       run = left-run needs state me knows.2.1 before after parts (found-once places standing state me knows.2.1 before after s.seats parts);
       names = refl;
@@ -172,14 +172,14 @@ step-Unlink needs lawful wide places row standing state me room here s seen newe
     }
 
 -- What dropping the tail leaves, for any stage that the holder goes on at: the flag is kept where somebody waits
-dropping : (needs : Needs) (places : ℕ) (row : ℕ → ℕ) (standing : ℕ → Place) (state : AbstractState) (me : ℕ) (s : Refines needs places row standing state)
+dropping : (needs : Needs) (places : ℕ) (row : ℕ → ℕ) (standing : ℕ → Place) (state : AbstractState) (me : ℕ) (s : Invariant needs places row standing state)
     (seen : Word) (older request : ℕ) (before : List (ℕ × ℕ)) (stage : Stage) (next : ℕ)
     → me < places → s.holder ≡ me + 1 → s.cut ≡ [] → main_of row ≡ seen → state.line ≡ before ++ (me, request) ∷ [] → older ≡ newest 0 before
-    → IsRanged needs stage → IsAlone needs Idle EndsCall stage → gives_up EndsCall stage ≡ false → ((word : LineWord) → IsOwn word stage)
+    → IsRanged needs stage → IsLocallyTrue needs Idle EndsCall stage → gives_up EndsCall stage ≡ false → ((word : LineWord) → IsOwn word stage)
     → IsShowing (s.owed me) (s.answer_value me) stage → is_holder stage ≡ (next == me + 1)
     → (next ≡ me + 1 → IsHolding needs (line_of row) me state.count before [] stage)
     → ((other : ℕ) → (other ≡ me → ⊥) → (s.holder == other + 1) ≡ (next == other + 1)) → (older == 0) ≡ (next == 0)
-    → Refines needs places (updated row 0 (word_number count_bits (dropped_word seen older)))
+    → Invariant needs places (updated row 0 (word_number count_bits (dropped_word seen older)))
     (updated standing me (record (left_line (standing me)) { stage = stage })) (left state before)
 dropping needs places row standing state me s seen older request before stage next here mine none found parts is ranged alone stays own showing holder holding
     others flag =
@@ -197,7 +197,7 @@ dropping needs places row standing state me s seen older request before stage ne
     (λ free. ap (λ (l : List (ℕ × ℕ)). not (is_empty l)) (front-none before older is (flag ∙ free)))
     (λ closed. subst (λ (l : List (ℕ × ℕ)). IsSettledAt needs state.count l) (sym (nobody-left before closed)) tt) in
     subst (λ (l : List (ℕ × ℕ)).
-    Refines needs places (updated row 0 number) (updated standing me (record (left_line (standing me)) { stage = stage })) (left state l)) (sym whole)
+    Invariant needs places (updated row 0 number) (updated standing me (record (left_line (standing me)) { stage = stage })) (left state l)) (sym whole)
     (leaving needs places row standing state me s 0 number request stage before [] next here (omega arith) mine parts
     (λ other out. ap (λ (words : ℕ → LineWord). words other) (line-main row number))
     (rw (line-main row number) (subst (λ (l : List (ℕ × ℕ)). IsBehind (line_of row) 0 l) whole linked_front))
@@ -212,8 +212,8 @@ dropping needs places row standing state me s seen older request before stage ne
 
 -- the exchange succeeds: the holder was the newest, and nobody is behind it
 dropped-step : (needs : Needs) (places : ℕ) (row : ℕ → ℕ) (standing : ℕ → Place) (state : AbstractState) (me : ℕ) → me < places
-    → (s : Refines needs places row standing state) → (seen : Word) (older : ℕ) → row 0 == word_number count_bits seen ≡ true → s.holder ≡ me + 1
-    → IsRanged needs (DropTail seen older) → IsAlone needs (standing me).registration (standing me).back (DropTail seen older) → s.owed me ≡ []
+    → (s : Invariant needs places row standing state) → (seen : Word) (older : ℕ) → row 0 == word_number count_bits seen ≡ true → s.holder ≡ me + 1
+    → IsRanged needs (DropTail seen older) → IsLocallyTrue needs (standing me).registration (standing me).back (DropTail seen older) → s.owed me ≡ []
     → IsHolding needs (line_of row) me state.count state.line s.cut (DropTail seen older)
     → StepRefines needs places row standing state me (DropTail seen older)
 dropped-step needs places row standing state me here s seen older same mine ranged alone nothing knows =
@@ -234,9 +234,9 @@ dropped-step needs places row standing state me here s seen older same mine rang
     let after : Next = if older == 0 then done (left_line (standing me)) Ended else walking (left_line (standing me)) (dropped_word seen older) in
     let line : state.line ≡ before ++ (me, request) ∷ [] = parts ∙ ap (λ (l : List (ℕ × ℕ)). before ++ (me, request) ∷ l) alone_there in
     record {
-      events = Left ∷ [];
+      events = Cancelled ∷ [];
       last = left state before;
-      run = subst (λ (l : List (ℕ × ℕ)). IsRun needs state (of_place me (Left ∷ [])) (left state l)) (append-nil before)
+      run = subst (λ (l : List (ℕ × ℕ)). IsRun needs state (of_place me (Cancelled ∷ [])) (left state l)) (append-nil before)
           (left-run needs state me request before [] line once);
       names = rw same refl;
       calm = λ semaphore. refl;
@@ -245,13 +245,13 @@ dropped-step needs places row standing state me here s seen older same mine rang
           rw same
           (elim (cases_Bool (older == 0)) [
             | inl first ↦
-                subst (λ (n : Next). Refines needs places (updated row 0 number) (updated standing me (place_after (standing me) n)) (left state before))
+                subst (λ (n : Next). Invariant needs places (updated row 0 number) (updated standing me (place_after (standing me) n)) (left state before))
                 (let is : done (left_line (standing me)) Ended ≡ after = rw first refl in is)
                 (dropping needs places row standing state me s seen older request before Quiet 0 here mine knows.1 found line knows.2.3
                 tt tt refl (λ word. tt) nothing (sym (nobody me)) (λ is. absurd (omega (arith, is)))
                 (λ other apart. holder-none s.holder me other mine apart) first)
             | inr others ↦
-                subst (λ (n : Next). Refines needs places (updated row 0 number) (updated standing me (place_after (standing me) n)) (left state before))
+                subst (λ (n : Next). Invariant needs places (updated row 0 number) (updated standing me (place_after (standing me) n)) (left state before))
                 (let is : walking (left_line (standing me)) (dropped_word seen older) ≡ after = rw others refl in is)
                 (dropping needs places row standing state me s seen older request before (BackLoad (dropped_word seen older) older 0) s.holder
                 here mine knows.1 found line knows.2.3
@@ -274,7 +274,7 @@ dropped-step needs places row standing state me here s seen older same mine rang
 
 -- the exchange fails: another word stands there, and the holder looks for itself again from that
 looks-again : (needs : Needs) (places : ℕ) (row : ℕ → ℕ) (standing : ℕ → Place) (state : AbstractState) (me : ℕ) → me < places
-    → (s : Refines needs places row standing state) → (seen : Word) (older : ℕ) → (standing me).stage ≡ DropTail seen older
+    → (s : Invariant needs places row standing state) → (seen : Word) (older : ℕ) → (standing me).stage ≡ DropTail seen older
     → row 0 == word_number count_bits seen ≡ false → IsLeaving (standing me).registration (standing me).back → s.owed me ≡ []
     → IsHolding needs (line_of row) me state.count state.line s.cut (DropTail seen older)
     → StepRefines needs places row standing state me (DropTail seen older)
@@ -308,14 +308,14 @@ looks-again needs places row standing state me here s seen older at differs leav
 
 -- Where no waiter is behind the holder, the tail is the place before it
 pub step-DropTail : (needs : Needs) → AreNeeds needs → needs.top < 2 ^ count_bits → (places : ℕ) (row : ℕ → ℕ) (standing : ℕ → Place) (state : AbstractState) (me : ℕ)
-    → places < 65536 → me < places → (s : Refines needs places row standing state)
+    → places < 65536 → me < places → (s : Invariant needs places row standing state)
     → (seen : Word) (older : ℕ) → (standing me).stage ≡ DropTail seen older
     → StepRefines needs places row standing state me (DropTail seen older)
 step-DropTail needs lawful wide places row standing state me room here s seen older at =
     let mine : s.holder ≡ me + 1 = flag-held needs places row standing state me s (ap is_holder at) in
     let knows = flag-knows needs places row standing state me s (DropTail seen older) at refl in
     let ranged = subst (λ (stage : Stage). IsRanged needs stage) at (s.stages.ranged me) in
-    let alone = subst (λ (stage : Stage). IsAlone needs (standing me).registration (standing me).back stage) at (s.stages.alone me) in
+    let alone = subst (λ (stage : Stage). IsLocallyTrue needs (standing me).registration (standing me).back stage) at (s.stages.alone me) in
     let nothing = subst (λ (stage : Stage). IsShowing (s.owed me) (s.answer_value me) stage) at (s.stages.showing me) in
     elim (cases_Bool (row 0 == word_number count_bits seen)) [
       | inl same ↦ dropped-step needs places row standing state me here s seen older same mine ranged alone nothing knows

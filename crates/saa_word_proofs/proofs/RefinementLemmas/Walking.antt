@@ -12,7 +12,7 @@ use Rattle.saa_word_steps.specs.Needs.{Needs, AreNeeds, fits_count}
 use Rattle.saa_word_steps.specs.AbstractState.{AbstractState, IsSettledAt, takes_of, is_empty}
 use Rattle.saa_word_steps.specs.Steps.{IsRanged, IsRangedNext, next_of}
 use Rattle.saa_word_steps.proofs.Ranges.{next-ranged}
-use Rattle.saa_word_proofs.specs.Refinement.{newest, is_holder, IsAlone, IsShowing, Work, IsAdded, IsAt, Refines}
+use Rattle.saa_word_proofs.specs.Refinement.{newest, is_holder, IsLocallyTrue, IsShowing, Work, IsAdded, IsAt, Invariant}
 use Rattle.saa_word_proofs.specs.Rows.{line_of, updated}
 use Rattle.saa_word_proofs.specs.StepRefinement.{place_after, StepRefines}
 use Rattle.saa_word_proofs.proofs.RefinementLemmas.Lists.{newest-empty, empty-nil, front-append, takes-append}
@@ -23,7 +23,7 @@ use Rattle.saa_word_proofs.proofs.RefinementLemmas.Linking.{flag-held, flag-know
 
 -- The line word of the last of the front is loaded, before it is linked to those behind it
 pub step-BackLoad : (needs : Needs) → AreNeeds needs → needs.top < 2 ^ count_bits → (places : ℕ) (row : ℕ → ℕ) (standing : ℕ → Place) (state : AbstractState) (me : ℕ)
-    → places < 65536 → (s : Refines needs places row standing state)
+    → places < 65536 → (s : Invariant needs places row standing state)
     → (seen : Word) (current newer : ℕ) → (standing me).stage ≡ BackLoad seen current newer
     → StepRefines needs places row standing state me (BackLoad seen current newer)
 step-BackLoad needs lawful wide places row standing state me room s seen current newer at =
@@ -41,7 +41,7 @@ step-BackLoad needs lawful wide places row standing state me room s seen current
       stands = loaded needs places row (updated standing me next) state current
           (moved needs places row standing state me s next (λ out. refl) refl
           (subst (λ stage. IsRanged needs stage) at (s.stages.ranged me))
-          (subst (λ stage. IsAlone needs (standing me).registration (standing me).back stage) at (s.stages.alone me))
+          (subst (λ stage. IsLocallyTrue needs (standing me).registration (standing me).back stage) at (s.stages.alone me))
           (apart-at needs places row standing state me s (BackLoad seen current newer) at) tt
           (subst (λ stage. IsShowing (s.owed me) (s.answer_value me) stage) at (s.stages.showing me)) (ap is_holder (sym at))
           (λ is. (knows.0, knows.1, knows.2, ap (λ (n : ℕ). line_word_of (row n)) there.1)));
@@ -49,7 +49,7 @@ step-BackLoad needs lawful wide places row standing state me room s seen current
 
 -- It is written with the link to the one behind it; the walk goes on to the one before, or turns at the oldest
 pub step-BackStore : (needs : Needs) → AreNeeds needs → needs.top < 2 ^ count_bits → (places : ℕ) (row : ℕ → ℕ) (standing : ℕ → Place) (state : AbstractState) (me : ℕ)
-    → places < 65536 → (s : Refines needs places row standing state)
+    → places < 65536 → (s : Invariant needs places row standing state)
     → (seen : Word) (current newer : ℕ) (line : LineWord) → (standing me).stage ≡ BackStore seen current newer line
     → StepRefines needs places row standing state me (BackStore seen current newer line)
 step-BackStore needs lawful wide places row standing state me room s seen current newer line at =
@@ -60,7 +60,7 @@ step-BackStore needs lawful wide places row standing state me room s seen curren
     let work : Work state.count state.line seen = store.walk.work in
     let number : ℕ = line_number (record line { newer = newer }) in
     let ranged = subst (λ stage. IsRanged needs stage) at (s.stages.ranged me) in
-    let alone = subst (λ stage. IsAlone needs (standing me).registration (standing me).back stage) at (s.stages.alone me) in
+    let alone = subst (λ stage. IsLocallyTrue needs (standing me).registration (standing me).back stage) at (s.stages.alone me) in
     let apart = apart-at needs places row standing state me s (BackStore seen current newer line) at in
     let showing = subst (λ stage. IsShowing (s.owed me) (s.answer_value me) stage) at (s.stages.showing me) in
     record {
@@ -77,7 +77,7 @@ step-BackStore needs lawful wide places row standing state me room s seen curren
                 empty-nil work.front (sym (newest-empty work.front) ∙ ap (λ (n : ℕ). n == 0) (sym store.walk.before) ∙ none) in
                 rw none
                 (subst (λ (link : ℕ).
-                Refines needs places (updated row link number) (updated standing me (record (standing me) { stage = Forward seen current seen.count })) state)
+                Invariant needs places (updated row link number) (updated standing me (record (standing me) { stage = Forward seen current seen.count })) state)
                 (sym store.link)
                 (relinked needs places row standing state me s (Forward seen current seen.count) (pred current) number s.cut s.uncut (λ out. refl) flag store.waits
                 store.linked
@@ -88,7 +88,7 @@ step-BackStore needs lawful wide places row standing state me room s seen curren
                 sym (newest-empty work.front) ∙ ap (λ (n : ℕ). n == 0) (sym store.walk.before) ∙ some in
                 rw some
                 (subst (λ (link : ℕ).
-                Refines needs places (updated row link number) (updated standing me (record (standing me) { stage = BackLoad seen line.older current })) state)
+                Invariant needs places (updated row link number) (updated standing me (record (standing me) { stage = BackLoad seen line.older current })) state)
                 (sym store.link)
                 (relinked needs places row standing state me s (BackLoad seen line.older current) (pred current) number s.cut s.uncut (λ out. refl) flag store.waits
                 store.linked
@@ -133,7 +133,7 @@ passed needs words held line seen current count work added look fits differs =
 
 -- A waiter that fits is passed; the line is emptied where all fit, and cut and closed at the first that does not
 pub step-Forward : (needs : Needs) → AreNeeds needs → needs.top < 2 ^ count_bits → (places : ℕ) (row : ℕ → ℕ) (standing : ℕ → Place) (state : AbstractState) (me : ℕ)
-    → places < 65536 → (s : Refines needs places row standing state)
+    → places < 65536 → (s : Invariant needs places row standing state)
     → (seen : Word) (current count : ℕ) → (standing me).stage ≡ Forward seen current count
     → StepRefines needs places row standing state me (Forward seen current count)
 step-Forward needs lawful wide places row standing state me room s seen current count at =
@@ -151,7 +151,7 @@ step-Forward needs lawful wide places row standing state me room s seen current 
     let ranged : IsRangedNext needs (next_of needs me (standing me) (Forward seen current count) (row current)) =
     next-ranged needs lawful wide me (standing me) (Forward seen current count) (row current) (s.stages.ranged me)
     (subst (λ stage. IsRanged needs stage) at (s.stages.ranged me)) in
-    let alone = subst (λ stage. IsAlone needs (standing me).registration (standing me).back stage) at (s.stages.alone me) in
+    let alone = subst (λ stage. IsLocallyTrue needs (standing me).registration (standing me).back stage) at (s.stages.alone me) in
     let apart = apart-at needs places row standing state me s (Forward seen current count) at in
     let showing : s.owed me ≡ [] = subst (λ stage. IsShowing (s.owed me) (s.answer_value me) stage) at (s.stages.showing me) in
     record {

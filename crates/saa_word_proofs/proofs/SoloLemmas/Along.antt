@@ -16,7 +16,7 @@ use Rattle.saa_word_steps.specs.declared.event.Event.{Event}
 use Rattle.saa_word_steps.specs.AbstractState.{AbstractState, IsRun}
 use Rattle.saa_word_steps.specs.Steps.{word_at, operation_of, started}
 use Rattle.saa_word_steps.specs.Readings.{is_taken}
-use Rattle.saa_word_proofs.specs.Refinement.{Refines}
+use Rattle.saa_word_proofs.specs.Refinement.{Invariant}
 use Rattle.saa_word_proofs.specs.Rows.{updated}
 use Rattle.saa_word_proofs.specs.StepRefinement.{StepRefines, named_at, place_after, row_after}
 use Rattle.saa_word_proofs.specs.History.{named, of_place}
@@ -26,7 +26,7 @@ use Rattle.saa_word_proofs.proofs.RefinementLemmas.Lists.{all-same, updated-at}
 use Rattle.saa_word_proofs.proofs.RefinementLemmas.Steps.{step}
 use Rattle.saa_word_proofs.proofs.RefinementLemmas.Calls.{under-next}
 use Rattle.saa_word_proofs.proofs.RefinementLemmas.Starting.{starts, call-begun}
-use Rattle.saa_word_proofs.specs.Alone.{Moment, put, next_at, IsEither, IsDoneIn}
+use Rattle.saa_word_proofs.specs.Alone.{Configuration, put, next_at, IsEither, IsDoneIn}
 use Rattle.saa_word_proofs.proofs.SoloLemmas.Events.{run-append, named-append}
 use Rattle.saa_word_proofs.specs.Registering.{registration_after}
 use Rattle.saa_word_proofs.proofs.SoloLemmas.Paths.{left-append, left-next}
@@ -47,9 +47,9 @@ pub record SoFar (needs : Needs) (me : ℕ) (start state : AbstractState) (names
 
 -- The call of a place that was registered so is done: it has answered what its events name. Behind its start the place was registered
 -- as `was`, and its events say what it is now
-pub record Arrives (needs : Needs) (places me : ℕ) (start : AbstractState) (first : ℕ → Place) (call : WordCall) (registered was : Registration) (answer : Answer) (last : Moment) : Type 0 where
+pub record Arrives (needs : Needs) (places me : ℕ) (start : AbstractState) (first : ℕ → Place) (call : WordCall) (registered was : Registration) (answer : Answer) (last : Configuration) : Type 0 where
   pub state : AbstractState
-  pub stands : Refines needs places last.row last.standing state
+  pub stands : Invariant needs places last.row last.standing state
   pub names : List Event
   pub far : SoFar needs me start state names
   pub answered : IsAnswered needs call registered names answer
@@ -58,13 +58,13 @@ pub record Arrives (needs : Needs) (places me : ℕ) (start : AbstractState) (fi
   pub others : last.standing ≡ updated first me (last.standing me)
 
 -- how a call goes on behind a step, where what it does then is known
-goes : (needs : Needs) (places me : ℕ) (call : WordCall) (registered was : Registration) (steps : ℕ) (first : ℕ → Place) (now : Moment) (row : ℕ → ℕ) (start state : AbstractState) (stage : Stage) (names : List Event) (answer : Answer) (last : Moment)
-    → ((next : Moment) → Refines needs places next.row next.standing state → IsUnder needs call registered (next.standing me).back (next.standing me).stage names
+goes : (needs : Needs) (places me : ℕ) (call : WordCall) (registered was : Registration) (steps : ℕ) (first : ℕ → Place) (now : Configuration) (row : ℕ → ℕ) (start state : AbstractState) (stage : Stage) (names : List Event) (answer : Answer) (last : Configuration)
+    → ((next : Configuration) → Invariant needs places next.row next.standing state → IsUnder needs call registered (next.standing me).back (next.standing me).stage names
     → (next.standing me).registration ≡ registration_after names (asked_by call) was → next.standing ≡ updated first me (next.standing me)
     → IsDoneIn needs places me steps next answer last → Arrives needs places me start first call registered was answer last)
     → (next : Next) → SoFar needs me start state names → now.standing ≡ updated first me (now.standing me)
     → IsUnderNext needs call registered (now.standing me).back stage names next → IsLeft (now.standing me).registration (registration_after names (asked_by call) was) next
-    → Refines needs places row (updated now.standing me (place_after (now.standing me) next)) state
+    → Invariant needs places row (updated now.standing me (place_after (now.standing me) next)) state
     → IsEither next (IsDoneIn needs places me steps (put me next (record now { row = row })) answer last)
     (λ said. (steps ≡ 0) × (said ≡ answer) × (put me next (record now { row = row }) ≡ last))
     → Arrives needs places me start first call registered was answer last
@@ -92,12 +92,12 @@ goes needs places me call registered was steps first now row start state stage n
       quiet = ap (λ (p : Place). p.stage) here ∙ left.1;
       others = changed;
     } in
-    subst (λ (m : Moment). Arrives needs places me start first call registered was answer m) h.2 arrived
+    subst (λ (m : Configuration). Arrives needs places me start first call registered was answer m) h.2 arrived
 
 along : (needs : Needs) → AreNeeds needs → needs.top < 2 ^ count_bits → (places me : ℕ) → places < 65536 → me < places
-    → (call : WordCall) (registered was : Registration) (first : ℕ → Place) (start : AbstractState) (answer : Answer) (last : Moment)
-    → (steps : ℕ) (now : Moment) (state : AbstractState) (names : List Event) → SoFar needs me start state names
-    → Refines needs places now.row now.standing state → IsUnder needs call registered (now.standing me).back (now.standing me).stage names
+    → (call : WordCall) (registered was : Registration) (first : ℕ → Place) (start : AbstractState) (answer : Answer) (last : Configuration)
+    → (steps : ℕ) (now : Configuration) (state : AbstractState) (names : List Event) → SoFar needs me start state names
+    → Invariant needs places now.row now.standing state → IsUnder needs call registered (now.standing me).back (now.standing me).stage names
     → (now.standing me).registration ≡ registration_after names (asked_by call) was → now.standing ≡ updated first me (now.standing me)
     → IsDoneIn needs places me steps now answer last → Arrives needs places me start first call registered was answer last
 along needs lawful small places me room here call registered was first start answer last zero now state names far s under same others h = absurd h
@@ -127,15 +127,15 @@ along needs lawful small places me room here call registered was first start ans
 
 -- A call that has steps to make, from its start
 pub from-start : (needs : Needs) → AreNeeds needs → needs.top < 2 ^ count_bits → (places me : ℕ) → places < 65536 → me < places
-    → (call : WordCall) (place : Place) (state : AbstractState) (answer : Answer) (last : Moment) (steps : ℕ) (now : Moment)
-    → Refines needs places now.row now.standing state → (now.standing me).stage ≡ Quiet → is_taken needs.is_lock call ≡ true
+    → (call : WordCall) (place : Place) (state : AbstractState) (answer : Answer) (last : Configuration) (steps : ℕ) (now : Configuration)
+    → Invariant needs places now.row now.standing state → (now.standing me).stage ≡ Quiet → is_taken needs.is_lock call ≡ true
     → started needs (now.standing me) call ≡ Going place → IsDoneIn needs places me steps (put me (Going place) now) answer last
     → Arrives needs places me state now.standing call (now.standing me).registration place.registration answer last
 from-start needs lawful small places me room here call place state answer last steps now s quiet taken is h =
     let registered : Registration = (now.standing me).registration in
     let at : updated now.standing me place me ≡ place = updated-at now.standing me place in
-    let stands : Refines needs places now.row (updated now.standing me place) state =
-    subst (λ (next : Next). Refines needs places now.row (updated now.standing me (place_after (now.standing me) next)) state) is
+    let stands : Invariant needs places now.row (updated now.standing me place) state =
+    subst (λ (next : Next). Invariant needs places now.row (updated now.standing me (place_after (now.standing me) next)) state) is
     (starts needs small places now.row now.standing state me call here s quiet taken) in
     let under : IsUnder needs call registered place.back place.stage [] =
     subst (λ (next : Next). IsBegun needs call registered next) is (call-begun needs (now.standing me) call quiet) in

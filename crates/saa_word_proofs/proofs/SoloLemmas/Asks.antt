@@ -14,19 +14,19 @@ use Rattle.saa_word_steps.specs.declared.rules.Rules.TheVariants.{Permits, Modes
 use Rattle.saa_word_steps.specs.declared.place.Ask.{Ask}
 use Rattle.saa_word_steps.specs.declared.place.Place.{Place}
 use Rattle.saa_word_steps.specs.declared.place.Registration.{Registration}
-use Rattle.saa_word_steps.specs.declared.place.Registration.TheVariants.{Idle as IsIdle, Once, Slot}
+use Rattle.saa_word_steps.specs.declared.place.Registration.TheVariants.{Idle as IsIdle, AnsweredAtOnce, Queued}
 use Rattle.saa_word_steps.specs.declared.call.Answer.{Answer}
 use Rattle.saa_word_steps.specs.declared.call.Answer.TheVariants.{Bool as Says, Tried}
 use Rattle.saa_word_steps.specs.declared.call.WordCall.{WordCall}
 use Rattle.saa_word_steps.specs.declared.call.WordCall.TheVariants.{Try, Register}
 use Rattle.saa_word_steps.specs.Needs.{Needs, fits_count, lock_at, needs_of}
-use Rattle.saa_word_steps.specs.declared.event.Event.TheVariants.{Got, Refused, Joined, AskedPoisoned}
+use Rattle.saa_word_steps.specs.declared.event.Event.TheVariants.{Acquired, Refused, Joined, AskedPoisoned}
 use Rattle.saa_word_steps.specs.AbstractState.{AbstractState, IsEnabled, after_event, is_empty, must_wait}
 use Rattle.saa_word_steps.specs.Readings.{is_idle as is_free, is_taken, tried_answer}
 use Rattle.saa_word_proofs.specs.Rows.{updated}
 use Rattle.saa_word_proofs.specs.Calls.{asked_by}
 use Rattle.saa_word_proofs.specs.Represents.{entry_of, held_at, waiters}
-use Rattle.saa_word_proofs.specs.Alone.{Mirrors}
+use Rattle.saa_word_proofs.specs.Alone.{PlacesRepresent}
 use Rattle.saa_word_proofs.proofs.SoloLemmas.HeldAt.{plus-at, asks-at, answer-at, held-calm, held-poisoned}
 use Rattle.saa_word_proofs.proofs.SoloLemmas.Fronts.{waiters-append}
 use Rattle.saa_word_proofs.proofs.SoloLemmas.Commands.{trying_says, tried_by, try-call, registered_by, register-call}
@@ -39,7 +39,7 @@ nobody-waits needs [] = refl
 nobody-waits needs (asker ∷ rest) = refl
 
 -- whether an ask is granted at once
-granted-test : (needs : Needs) (places : ℕ) (standing : ℕ → Place) (state : AbstractState) (s : Object) (request : ℕ) → Mirrors needs places standing state s
+granted-test : (needs : Needs) (places : ℕ) (standing : ℕ → Place) (state : AbstractState) (s : Object) (request : ℕ) → PlacesRepresent needs places standing state s
     → state.poisoned ≡ false → is_granted_at_once s (needs.read request) ≡ not (must_wait needs state request)
 granted-test needs places standing state s request m calm =
     let nobody : is_nobody s.line ≡ is_empty state.line = ap is_nobody m.line ∙ nobody-waits needs state.line in
@@ -53,18 +53,18 @@ granted-test needs places standing state s request m calm =
     either false fitting = refl
 
 -- what was got is granted, and what waits or is refused isn't
-got-test : (needs : Needs) (places me : ℕ) (standing : ℕ → Place) (state : AbstractState) (s : Object) (request : ℕ) → Mirrors needs places standing state s
-    → IsEnabled needs state me (Got request) → is_granted_at_once s (needs.read request) ≡ true
+got-test : (needs : Needs) (places me : ℕ) (standing : ℕ → Place) (state : AbstractState) (s : Object) (request : ℕ) → PlacesRepresent needs places standing state s
+    → IsEnabled needs state me (Acquired request) → is_granted_at_once s (needs.read request) ≡ true
 got-test needs places me standing state s request m allowed =
     let free : must_wait needs state request ≡ false = rw (allowed.1, allowed.2) refl in
     granted-test needs places standing state s request m allowed.0 ∙ ap not free
 
-waits-test : (needs : Needs) (places : ℕ) (standing : ℕ → Place) (state : AbstractState) (s : Object) (request : ℕ) → Mirrors needs places standing state s
+waits-test : (needs : Needs) (places : ℕ) (standing : ℕ → Place) (state : AbstractState) (s : Object) (request : ℕ) → PlacesRepresent needs places standing state s
     → state.poisoned ≡ false → must_wait needs state request ≡ true → is_granted_at_once s (needs.read request) ≡ false
 waits-test needs places standing state s request m calm waits = granted-test needs places standing state s request m calm ∙ ap not waits
 
 -- a poisoned lock grants nothing
-poisoned-test : (needs : Needs) (places : ℕ) (standing : ℕ → Place) (state : AbstractState) (s : Object) (request : Request) → Mirrors needs places standing state s
+poisoned-test : (needs : Needs) (places : ℕ) (standing : ℕ → Place) (state : AbstractState) (s : Object) (request : Request) → PlacesRepresent needs places standing state s
     → state.poisoned ≡ true → is_granted_at_once s request ≡ false
 poisoned-test needs places standing state s request m poisoned =
     let unfit : fits s.held request ≡ false =
@@ -76,14 +76,14 @@ poisoned-test needs places standing state s request m poisoned =
     and-false false = refl
 
 -- what the object holds once something is got
-got-held : (rules : Rules) (places me : ℕ) (standing : ℕ → Place) (state : AbstractState) (s : Object) (request : ℕ) → Mirrors (needs_of rules) places standing state s
-    → IsEnabled (needs_of rules) state me (Got request)
-    → plus s.held ((needs_of rules).read request) ≡ held_at (needs_of rules) (after_event (needs_of rules) state me (Got request))
+got-held : (rules : Rules) (places me : ℕ) (standing : ℕ → Place) (state : AbstractState) (s : Object) (request : ℕ) → PlacesRepresent (needs_of rules) places standing state s
+    → IsEnabled (needs_of rules) state me (Acquired request)
+    → plus s.held ((needs_of rules).read request) ≡ held_at (needs_of rules) (after_event (needs_of rules) state me (Acquired request))
 got-held rules places me standing state s request m allowed =
     let needs : Needs = needs_of rules in
     ap (λ (h : Held). plus h (needs.read request)) (m.held ∙ held-calm needs state allowed.0)
     ∙ plus-at rules state.count request allowed.2
-    ∙ sym (held-calm needs (after_event needs state me (Got request)) allowed.0)
+    ∙ sym (held-calm needs (after_event needs state me (Acquired request)) allowed.0)
 
 -- Tries
 
@@ -115,18 +115,18 @@ says-refused false = refl
 
 pub try-got : (rules : Rules) (places me : ℕ) (is_sync : Bool) (call : WordCall) (standing : ℕ → Place) (state : AbstractState) (s : Object) (ask : Ask) (place : Place)
     → Starts (needs_of rules) places me standing state s → asked_by call ≡ Some ask → ask.joins ≡ false → is_taken (needs_of rules).is_lock call ≡ true
-    → IsEnabled (needs_of rules) state me (Got ask.request) → place.registration ≡ (standing me).registration
+    → IsEnabled (needs_of rules) state me (Acquired ask.request) → place.registration ≡ (standing me).registration
     → Answers (needs_of rules) places me is_sync call (updated standing me place) s
-    (after_event (needs_of rules) state me (Got ask.request)) (tried_answer (needs_of rules) true)
+    (after_event (needs_of rules) state me (Acquired ask.request)) (tried_answer (needs_of rules) true)
 try-got rules places me is_sync call standing state s ask place h asks joins taken allowed same =
     let needs : Needs = needs_of rules in
     let m = h.mirrors in
     let test : is_granted_at_once s (needs.read ask.request) ≡ true = got-test needs places me standing state s ask.request m allowed in
     let got : tried s (needs.read ask.request) ≡ record { state = record s { held = plus s.held (needs.read ask.request) }; reply = true } = rw test refl in
-    answers-by needs places me is_sync call (updated standing me place) s (after_event needs state me (Got ask.request)) (tried_answer needs true)
+    answers-by needs places me is_sync call (updated standing me place) s (after_event needs state me (Acquired ask.request)) (tried_answer needs true)
     (tried_by needs.is_lock s (record { state = record s { held = plus s.held (needs.read ask.request) }; reply = true }))
     (try-call rules me is_sync call s ask asks joins taken ∙ ap (λ (a : After Bool). tried_by needs.is_lock s a) got)
-    (mirrors-held needs places standing state (after_event needs state me (Got ask.request)) s (plus s.held (needs.read ask.request)) s.line me place m
+    (mirrors-held needs places standing state (after_event needs state me (Acquired ask.request)) s (plus s.held (needs.read ask.request)) s.line me place m
     (got-held rules places me standing state s ask.request m allowed) m.line refl same)
     (says-got needs.is_lock (is_poisoned s.held))
 
@@ -197,7 +197,7 @@ slots-room (entry ∷ book) zero within free = omega (arith, slots-le book, ap o
 slots-room (entry ∷ book) (suc place) within free = omega (arith, slots-room book place (omega (arith, within)) free, one_if-le (holds_slot entry))
 
 -- there is room for a place that is idle
-room-test : (needs : Needs) (places me : ℕ) (standing : ℕ → Place) (state : AbstractState) (s : Object) → Mirrors needs places standing state s → me < places
+room-test : (needs : Needs) (places me : ℕ) (standing : ℕ → Place) (state : AbstractState) (s : Object) → PlacesRepresent needs places standing state s → me < places
     → entry_at s.book me ≡ Idle → used s == s.room ≡ false
 room-test needs places me standing state s m here idle =
     let less : slots_in s.book < length s.book = slots-room s.book me (rw m.names here) (ap holds_slot idle) in
@@ -233,7 +233,7 @@ register-answered : (rules : Rules) (places me : ℕ) (is_sync : Bool) (call : W
     → Starts (needs_of rules) places me standing state s → asked_by call ≡ Some ask → ask.joins ≡ true → is_taken (needs_of rules).is_lock call ≡ true
     → (not (is_idle (entry_at s.book me)) || asks_too_much s.held ((needs_of rules).read ask.request)) ≡ false
     → answer_at_once s ((needs_of rules).read ask.request) ≡ Some (record { state = record s { held = held }; reply = value })
-    → held ≡ held_at (needs_of rules) now → now.line ≡ state.line → now.shown ≡ state.shown → place.registration ≡ Once value ask.request
+    → held ≡ held_at (needs_of rules) now → now.line ≡ state.line → now.shown ≡ state.shown → place.registration ≡ AnsweredAtOnce value ask.request
     → Answers (needs_of rules) places me is_sync call (updated standing me place) s now (Says true)
 register-answered rules places me is_sync call standing state now s ask held value place h asks joins taken free answered holds line shown once =
     let needs : Needs = needs_of rules in
@@ -250,18 +250,18 @@ register-answered rules places me is_sync call standing state now s ask held val
 
 pub register-got : (rules : Rules) (places me : ℕ) (is_sync : Bool) (call : WordCall) (standing : ℕ → Place) (state : AbstractState) (s : Object) (ask : Ask) (place : Place)
     → Starts (needs_of rules) places me standing state s → asked_by call ≡ Some ask → ask.joins ≡ true → is_taken (needs_of rules).is_lock call ≡ true
-    → IsEnabled (needs_of rules) state me (Got ask.request)
+    → IsEnabled (needs_of rules) state me (Acquired ask.request)
     → (standing me).registration ≡ IsIdle → ((needs_of rules).is_lock ≡ false → nat_lt (needs_of rules).top ask.request ≡ false)
-    → place.registration ≡ Once 0 ask.request
+    → place.registration ≡ AnsweredAtOnce 0 ask.request
     → Answers (needs_of rules) places me is_sync call (updated standing me place) s
-    (after_event (needs_of rules) state me (Got ask.request)) (Says true)
+    (after_event (needs_of rules) state me (Acquired ask.request)) (Says true)
 register-got rules places me is_sync call standing state s ask place h asks joins taken allowed idle small once =
     let needs : Needs = needs_of rules in
     let m = h.mirrors in
     let request : Request = needs.read ask.request in
     let test : is_granted_at_once s request ≡ true = got-test needs places me standing state s ask.request m allowed in
     let grants : granted_at_once s request ≡ Some (record { state = record s { held = plus s.held request }; reply = 0 }) = rw test refl in
-    register-answered rules places me is_sync call standing state (after_event needs state me (Got ask.request)) s ask (plus s.held request) 0 place
+    register-answered rules places me is_sync call standing state (after_event needs state me (Acquired ask.request)) s ask (plus s.held request) 0 place
     h asks joins taken
     (free-test rules places me standing state s ask.request h (idle-entry needs places me standing state s m h.here idle) small)
     (ap (λ (t : Held). answer_when s t request) m.held ∙ answer-at rules state s request allowed.0 ∙ grants)
@@ -270,7 +270,7 @@ register-got rules places me is_sync call standing state s ask place h asks join
 pub register-poisoned : (rules : Rules) (places me : ℕ) (is_sync : Bool) (call : WordCall) (standing : ℕ → Place) (state : AbstractState) (s : Object) (ask : Ask) (place : Place)
     → Starts (needs_of rules) places me standing state s → asked_by call ≡ Some ask → ask.joins ≡ true → is_taken (needs_of rules).is_lock call ≡ true
     → IsEnabled (needs_of rules) state me AskedPoisoned
-    → (standing me).registration ≡ IsIdle → place.registration ≡ Once 2 ask.request
+    → (standing me).registration ≡ IsIdle → place.registration ≡ AnsweredAtOnce 2 ask.request
     → Answers (needs_of rules) places me is_sync call (updated standing me place) s state (Says true)
 register-poisoned rules places me is_sync call standing state s ask place h asks joins taken allowed idle once =
     let needs : Needs = needs_of rules in
@@ -286,7 +286,7 @@ pub register-joined : (rules : Rules) (places me : ℕ) (is_sync : Bool) (call :
     → Starts (needs_of rules) places me standing state s → asked_by call ≡ Some ask → ask.joins ≡ true → is_taken (needs_of rules).is_lock call ≡ true
     → IsEnabled (needs_of rules) state me (Joined ask.request)
     → (standing me).registration ≡ IsIdle → ((needs_of rules).is_lock ≡ false → nat_lt (needs_of rules).top ask.request ≡ false)
-    → place.registration ≡ Slot ask.request
+    → place.registration ≡ Queued ask.request
     → Answers (needs_of rules) places me is_sync call (updated standing me place) s
     (after_event (needs_of rules) state me (Joined ask.request)) (Says true)
 register-joined rules places me is_sync call standing state s ask place h asks joins taken allowed idle small slot =
@@ -345,9 +345,9 @@ register-large Modes places me is_sync count standing state s place h taken larg
 busy-entry : (needs : Needs) (registration : Registration) (shown : Option ℕ) (is_sync : Bool) → is_free registration ≡ false
     → is_idle (entry_of needs registration shown is_sync) ≡ false
 busy-entry needs IsIdle shown is_sync busy = absurd (cc)
-busy-entry needs (Once value request) shown is_sync busy = refl
-busy-entry needs (Slot request) None is_sync busy = refl
-busy-entry needs (Slot request) (Some value) is_sync busy = refl
+busy-entry needs (AnsweredAtOnce value request) shown is_sync busy = refl
+busy-entry needs (Queued request) None is_sync busy = refl
+busy-entry needs (Queued request) (Some value) is_sync busy = refl
 
 pub register-busy : (rules : Rules) (places me : ℕ) (is_sync : Bool) (call : WordCall) (standing : ℕ → Place) (state : AbstractState) (s : Object) (ask : Ask) (place : Place)
     → Starts (needs_of rules) places me standing state s → asked_by call ≡ Some ask → ask.joins ≡ true → is_taken (needs_of rules).is_lock call ≡ true

@@ -7,7 +7,7 @@ use Rattle.saa_word_steps.specs.declared.place.Registration.TheVariants.{Idle as
 use Rattle.saa_word_steps.specs.Needs.{Needs}
 use Rattle.saa_word_steps.specs.AbstractState.{AbstractState, opening}
 use Rattle.saa_word_proofs.specs.Represents.{entry_of, held_at, waiters}
-use Rattle.saa_word_proofs.specs.Alone.{Mirrors}
+use Rattle.saa_word_proofs.specs.Alone.{PlacesRepresent}
 
 -- the entries of so many places, from a place on
 abbrev book_from : Needs → (ℕ → Place) → (ℕ → Option ℕ) → ℕ → ℕ → List Entry
@@ -30,7 +30,7 @@ book-entry needs standing shown from (suc more) (suc place) within =
     ∙ ap (λ (n : ℕ). entry_of needs (standing n).registration (shown n) false) same
 
 -- there is one for each moment
-pub mirrored : (needs : Needs) (places : ℕ) (standing : ℕ → Place) (state : AbstractState) → (s : Object) × Mirrors needs places standing state s
+pub mirrored : (needs : Needs) (places : ℕ) (standing : ℕ → Place) (state : AbstractState) → (s : Object) × PlacesRepresent needs places standing state s
 mirrored needs places standing state = (
   record {
     held = held_at needs state;
@@ -64,7 +64,7 @@ names-length (suc more) = ap suc (names-length more)
 
 -- and a newly made one stands for the opening
 pub opened : (needs : Needs) (withheld places : ℕ) (standing : ℕ → Place) → ((place : ℕ) → (standing place).registration ≡ IsIdle)
-    → Mirrors needs places standing (opening withheld) (newly_made (needs.held withheld) places places)
+    → PlacesRepresent needs places standing (opening withheld) (newly_made (needs.held withheld) places places)
 opened needs withheld places standing idle = record {
   held = refl;
   line = refl;

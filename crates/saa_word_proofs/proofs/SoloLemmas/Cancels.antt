@@ -12,18 +12,18 @@ use Rattle.saa_word_steps.specs.declared.rules.Rules.{Rules}
 use Rattle.saa_word_steps.specs.declared.rules.Rules.TheVariants.{Permits, Modes}
 use Rattle.saa_word_steps.specs.declared.place.Place.{Place}
 use Rattle.saa_word_steps.specs.declared.place.Registration.{Registration}
-use Rattle.saa_word_steps.specs.declared.place.Registration.TheVariants.{Idle as IsIdle, Once, Slot}
+use Rattle.saa_word_steps.specs.declared.place.Registration.TheVariants.{Idle as IsIdle, AnsweredAtOnce, Queued}
 use Rattle.saa_word_steps.specs.declared.call.Answer.TheVariants.{Unit as SaysNothing}
 use Rattle.saa_word_steps.specs.declared.call.WordCall.TheVariants.{Cancel}
 use Rattle.saa_word_steps.specs.Needs.{Needs, left_count, lock_at, needs_of}
-use Rattle.saa_word_steps.specs.declared.event.Event.TheVariants.{Took, GaveNothing}
+use Rattle.saa_word_steps.specs.declared.event.Event.TheVariants.{AnswerTaken, ReleasedNothing}
 use Rattle.saa_word_steps.specs.AbstractState.{AbstractState, IsEnabled, after_event, is_in, with_answer}
 use Rattle.saa_word_proofs.specs.Refinement.{AreSeats}
 use Rattle.saa_word_proofs.specs.Rows.{updated}
 use Rattle.saa_word_proofs.specs.Registering.{is_slot}
 use Rattle.saa_word_proofs.specs.Calls.{is_taken_up}
 use Rattle.saa_word_proofs.specs.Represents.{entry_of, held_at, waiters}
-use Rattle.saa_word_proofs.specs.Alone.{Mirrors}
+use Rattle.saa_word_proofs.specs.Alone.{PlacesRepresent}
 use Rattle.saa_word_proofs.proofs.SoloLemmas.HeldAt.{held-calm}
 use Rattle.saa_word_proofs.proofs.SoloLemmas.Commands.{dropped_by, cancel-call}
 use Rattle.saa_word_proofs.proofs.SoloLemmas.Mirroring.{Starts, Settles, Answers, answers-by, mirrors-same, mirrors-set, mirrors-idle, taken-other, idle-entry, once-entry, shown-entry, waiting-entry, waits-slot}
@@ -152,7 +152,7 @@ gives-back rules places me is_sync standing state middle s value request left no
     let drops : dropped_of s me (Answered value (needs.read request) g.mode g.slotted) ≡ settled given_up =
     rw granted (undone rules state freed s.held (needs.read request) h.mirrors.held
     ∙ ap (λ (a : After Bool). a.state) (giving-back rules state freed request left h.mirrors.held calm h.bounded some lefts)) in
-    let between : Mirrors needs places (updated standing me place) after given_up =
+    let between : PlacesRepresent needs places (updated standing me place) after given_up =
     mirrors-set needs places standing state after s (needs.held left) s.line Idle me place false h.mirrors h.here (sym (held-calm needs after still))
     h.mirrors.line g.shown (sym (ap (λ (r : Registration). entry_of needs r (after.shown me) false) idle)) in
     let waiting : AreWaiting (updated standing me place) after = λ other there.
@@ -170,7 +170,7 @@ gives-back rules places me is_sync standing state middle s value request left no
 -- what it took isn't held any more
 gives-nothing : (rules : Rules) (places me : ℕ) (is_sync : Bool) (standing : ℕ → Place) (state middle : AbstractState) (s : Object) (value request : ℕ) (place : Place)
     → Starts (needs_of rules) places me standing state s → Gives (needs_of rules) places me standing state middle s value request
-    → value == 0 ≡ true → (needs_of rules).takes request == 0 ≡ false → IsEnabled (needs_of rules) state me (GaveNothing request)
+    → value == 0 ≡ true → (needs_of rules).takes request == 0 ≡ false → IsEnabled (needs_of rules) state me (ReleasedNothing request)
     → place.registration ≡ IsIdle
     → Answers (needs_of rules) places me is_sync Cancel (updated standing me place) s middle SaysNothing
 gives-nothing rules places me is_sync standing state middle s value request place h g granted some allowed idle =
@@ -195,7 +195,7 @@ not-waiting places me standing state seats never =
     ]
 
 once-gives : (rules : Rules) (places me : ℕ) (standing : ℕ → Place) (state : AbstractState) (s : Object) (value request : ℕ) → Starts (needs_of rules) places me standing state s
-    → (standing me).registration ≡ Once value request → Gives (needs_of rules) places me standing state state s value request
+    → (standing me).registration ≡ AnsweredAtOnce value request → Gives (needs_of rules) places me standing state state s value request
 once-gives rules places me standing state s value request h once =
     let e = once-entry (needs_of rules) places me standing state s value request h.mirrors h.here once in
     record {
@@ -210,14 +210,14 @@ once-gives rules places me standing state s value request h once =
     }
 
 pub cancel-once : (rules : Rules) (places me : ℕ) (is_sync : Bool) (standing : ℕ → Place) (state : AbstractState) (s : Object) (value request : ℕ) (place : Place)
-    → Starts (needs_of rules) places me standing state s → (standing me).registration ≡ Once value request
+    → Starts (needs_of rules) places me standing state s → (standing me).registration ≡ AnsweredAtOnce value request
     → is_taken_up (needs_of rules) request value ≡ false → place.registration ≡ IsIdle
     → Answers (needs_of rules) places me is_sync Cancel (updated standing me place) s state SaysNothing
 cancel-once rules places me is_sync standing state s value request place h once up idle =
     gives-none rules places me is_sync standing state state s value request place h (once-gives rules places me standing state s value request h once) up idle
 
 pub cancel-once-gave : (rules : Rules) (places me : ℕ) (is_sync : Bool) (standing : ℕ → Place) (state : AbstractState) (s : Object) (value request left : ℕ) (now : AbstractState) (place : Place)
-    → Starts (needs_of rules) places me standing state s → (standing me).registration ≡ Once value request
+    → Starts (needs_of rules) places me standing state s → (standing me).registration ≡ AnsweredAtOnce value request
     → is_taken_up (needs_of rules) request value ≡ true
     → state.poisoned ≡ false → left_count (needs_of rules) state.count request ≡ Some left
     → Settles (needs_of rules) left state.line state.shown now → place.registration ≡ IsIdle
@@ -228,9 +228,9 @@ cancel-once-gave rules places me is_sync standing state s value request left now
     (once-gives rules places me standing state s value request h once) took.0 took.1 calm calm lefts settles idle
 
 pub cancel-once-nothing : (rules : Rules) (places me : ℕ) (is_sync : Bool) (standing : ℕ → Place) (state : AbstractState) (s : Object) (value request : ℕ) (place : Place)
-    → Starts (needs_of rules) places me standing state s → (standing me).registration ≡ Once value request
+    → Starts (needs_of rules) places me standing state s → (standing me).registration ≡ AnsweredAtOnce value request
     → is_taken_up (needs_of rules) request value ≡ true
-    → IsEnabled (needs_of rules) state me (GaveNothing request) → place.registration ≡ IsIdle
+    → IsEnabled (needs_of rules) state me (ReleasedNothing request) → place.registration ≡ IsIdle
     → Answers (needs_of rules) places me is_sync Cancel (updated standing me place) s state SaysNothing
 cancel-once-nothing rules places me is_sync standing state s value request place h once up allowed idle =
     let took = took-something (needs_of rules) request value up in
@@ -240,8 +240,8 @@ cancel-once-nothing rules places me is_sync standing state s value request place
 -- Of an answer that is shown
 
 shown-gives : (rules : Rules) (places me : ℕ) (standing : ℕ → Place) (state : AbstractState) (s : Object) (value request : ℕ) → Starts (needs_of rules) places me standing state s
-    → (standing me).registration ≡ Slot request → state.shown me ≡ Some value
-    → Gives (needs_of rules) places me standing state (after_event (needs_of rules) state me (Took value)) s value request
+    → (standing me).registration ≡ Queued request → state.shown me ≡ Some value
+    → Gives (needs_of rules) places me standing state (after_event (needs_of rules) state me (AnswerTaken value)) s value request
 shown-gives rules places me standing state s value request h slot shown =
     let e = shown-entry (needs_of rules) places me standing state s value request h.mirrors h.here slot shown in
     record {
@@ -256,11 +256,11 @@ shown-gives rules places me standing state s value request h slot shown =
     }
 
 pub cancel-took : (rules : Rules) (places me : ℕ) (is_sync : Bool) (standing : ℕ → Place) (state : AbstractState) (s : Object) (value request : ℕ) (place : Place)
-    → Starts (needs_of rules) places me standing state s → (standing me).registration ≡ Slot request → state.shown me ≡ Some value
+    → Starts (needs_of rules) places me standing state s → (standing me).registration ≡ Queued request → state.shown me ≡ Some value
     → is_taken_up (needs_of rules) request value ≡ false → place.registration ≡ IsIdle
-    → Answers (needs_of rules) places me is_sync Cancel (updated standing me place) s (after_event (needs_of rules) state me (Took value)) SaysNothing
+    → Answers (needs_of rules) places me is_sync Cancel (updated standing me place) s (after_event (needs_of rules) state me (AnswerTaken value)) SaysNothing
 cancel-took rules places me is_sync standing state s value request place h slot shown up idle =
-    gives-none rules places me is_sync standing state (after_event (needs_of rules) state me (Took value)) s value request place h
+    gives-none rules places me is_sync standing state (after_event (needs_of rules) state me (AnswerTaken value)) s value request place h
     (shown-gives rules places me standing state s value request h slot shown) up idle
 
 -- what takes something isn't 0
@@ -272,22 +272,22 @@ takes-some needs request some =
     ]
 
 pub cancel-took-gave : (rules : Rules) (places me : ℕ) (is_sync : Bool) (standing : ℕ → Place) (state : AbstractState) (s : Object) (request left : ℕ) (now : AbstractState) (place : Place)
-    → Starts (needs_of rules) places me standing state s → (standing me).registration ≡ Slot request → state.shown me ≡ Some 0
+    → Starts (needs_of rules) places me standing state s → (standing me).registration ≡ Queued request → state.shown me ≡ Some 0
     → ((needs_of rules).takes request ≡ 0 → ⊥)
     → state.poisoned ≡ false → left_count (needs_of rules) state.count request ≡ Some left
     → Settles (needs_of rules) left state.line (with_answer me None state.shown) now → place.registration ≡ IsIdle
     → Answers (needs_of rules) places me is_sync Cancel (updated standing me place) s now SaysNothing
 cancel-took-gave rules places me is_sync standing state s request left now place h slot shown some calm lefts settles idle =
-    gives-back rules places me is_sync standing state (after_event (needs_of rules) state me (Took 0)) s 0 request left now place h
+    gives-back rules places me is_sync standing state (after_event (needs_of rules) state me (AnswerTaken 0)) s 0 request left now place h
     (shown-gives rules places me standing state s 0 request h slot shown) refl (takes-some (needs_of rules) request some) calm calm lefts settles idle
 
 pub cancel-took-nothing : (rules : Rules) (places me : ℕ) (is_sync : Bool) (standing : ℕ → Place) (state : AbstractState) (s : Object) (request : ℕ) (place : Place)
-    → Starts (needs_of rules) places me standing state s → (standing me).registration ≡ Slot request → state.shown me ≡ Some 0
+    → Starts (needs_of rules) places me standing state s → (standing me).registration ≡ Queued request → state.shown me ≡ Some 0
     → ((needs_of rules).takes request ≡ 0 → ⊥)
-    → IsEnabled (needs_of rules) state me (GaveNothing request) → place.registration ≡ IsIdle
-    → Answers (needs_of rules) places me is_sync Cancel (updated standing me place) s (after_event (needs_of rules) state me (Took 0)) SaysNothing
+    → IsEnabled (needs_of rules) state me (ReleasedNothing request) → place.registration ≡ IsIdle
+    → Answers (needs_of rules) places me is_sync Cancel (updated standing me place) s (after_event (needs_of rules) state me (AnswerTaken 0)) SaysNothing
 cancel-took-nothing rules places me is_sync standing state s request place h slot shown some allowed idle =
-    gives-nothing rules places me is_sync standing state (after_event (needs_of rules) state me (Took 0)) s 0 request place h
+    gives-nothing rules places me is_sync standing state (after_event (needs_of rules) state me (AnswerTaken 0)) s 0 request place h
     (shown-gives rules places me standing state s 0 request h slot shown) refl (takes-some (needs_of rules) request some) allowed idle
 
 -- Leaving the line
@@ -337,7 +337,7 @@ cancel-left rules places me is_sync standing state s now place h there settles i
     ] in
     let entry = waiting-entry needs places me standing state s m h.seats h.here there in
     let drops : dropped_of s me (Waiting entry.0 entry.1) ≡ settled left = leaving rules state left s.held m.held in
-    let between : Mirrors needs places (updated standing me place) after left =
+    let between : PlacesRepresent needs places (updated standing me place) after left =
     mirrors-set needs places standing state after s s.held (without me s.line) Idle me place false m h.here m.held
     (ap (without me) m.line ∙ without-waiters needs me state.line) (λ other apart. refl)
     (sym (ap (λ (r : Registration). entry_of needs r (state.shown me) false) idle)) in

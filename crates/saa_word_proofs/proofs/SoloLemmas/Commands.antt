@@ -15,8 +15,8 @@ use Rattle.saa_core_words.specs.Words.{mode_of}
 use Rattle.saa_word_steps.specs.declared.rules.Rules.{Rules}
 use Rattle.saa_word_steps.specs.declared.rules.Rules.TheVariants.{Permits, Modes}
 use Rattle.saa_word_steps.specs.declared.place.Ask.{Ask}
-use Rattle.saa_word_steps.specs.declared.place.Taking.{Taking}
-use Rattle.saa_word_steps.specs.declared.place.Given.TheVariants.{Asked}
+use Rattle.saa_word_steps.specs.declared.place.PollMode.{PollMode}
+use Rattle.saa_word_steps.specs.declared.place.ReleaseAmount.TheVariants.{Requested}
 use Rattle.saa_word_steps.specs.declared.call.Answer.{Answer}
 use Rattle.saa_word_steps.specs.declared.call.Answer.TheVariants.{Bool as Says, Tried, Taken, Unit as SaysNothing}
 use Rattle.saa_word_steps.specs.declared.call.WordCall.{WordCall}
@@ -110,7 +110,7 @@ abbrev pub given_back_by : After Bool → After Answer
 given_back_by after = record { state = after.state; reply = Says after.reply }
 
 pub release-call : (rules : Rules) (me : ℕ) (is_sync : Bool) (call : WordCall) (s : Object) (given : ℕ)
-    → given_by call ≡ Some (Asked given) → is_taken (needs_of rules).is_lock call ≡ true
+    → given_by call ≡ Some (Requested given) → is_taken (needs_of rules).is_lock call ≡ true
     → called (needs_of rules).is_lock me is_sync call s ≡ given_back_by (given_back s ((needs_of rules).read given))
 release-call (Permits bound) me is_sync (Release count) s given gives taken =
     let same : count ≡ given = cc in
@@ -131,7 +131,7 @@ release-call Modes me is_sync _ s given gives taken = absurd (cc)
 abbrev pub polled_by : After (Result ℕ Error) → After Answer
 polled_by after = record { state = after.state; reply = Taken (lock_value after.reply) }
 
-pub poll-call : (is_lock : Bool) (me : ℕ) (is_sync : Bool) (call : WordCall) (s : Object) (taking : Taking) → taken_by call ≡ Some taking
+pub poll-call : (is_lock : Bool) (me : ℕ) (is_sync : Bool) (call : WordCall) (s : Object) (taking : PollMode) → taken_by call ≡ Some taking
     → called is_lock me is_sync call s ≡ polled_by (polled s me TriesHow)
 poll-call false me is_sync TryPoll s taking takes = refl
 poll-call false me is_sync Poll s taking takes = refl

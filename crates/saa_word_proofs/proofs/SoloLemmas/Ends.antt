@@ -10,21 +10,21 @@ use Rattle.saa_word_steps.specs.declared.call.WordCall.{WordCall}
 use Rattle.saa_word_steps.specs.declared.call.WordCall.TheVariants.{Try, Register, Release, RegisterMode, TryPoll, Poll, Cancel}
 use Rattle.saa_word_steps.specs.declared.place.Place.{Place}
 use Rattle.saa_word_steps.specs.declared.place.Registration.{Registration}
-use Rattle.saa_word_steps.specs.declared.place.Registration.TheVariants.{Idle, Once, Slot}
+use Rattle.saa_word_steps.specs.declared.place.Registration.TheVariants.{Idle, AnsweredAtOnce, Queued}
 use Rattle.saa_word_steps.specs.declared.place.Next.{Next}
 use Rattle.saa_word_steps.specs.declared.place.Next.TheVariants.{Going, Waits, Done}
-use Rattle.saa_word_steps.specs.declared.place.Back.{Back}
+use Rattle.saa_word_steps.specs.declared.place.AfterWalk.{AfterWalk}
 use Rattle.saa_word_steps.specs.declared.place.Stage.{Stage}
 use Rattle.saa_word_steps.specs.declared.place.Stage.TheVariants.{Quiet, Take}
-use Rattle.saa_word_steps.specs.declared.place.Taking.{Taking}
-use Rattle.saa_word_steps.specs.declared.place.Taking.TheVariants.{Tries, Awaits}
+use Rattle.saa_word_steps.specs.declared.place.PollMode.{PollMode}
+use Rattle.saa_word_steps.specs.declared.place.PollMode.TheVariants.{Tries, Awaits}
 use Rattle.saa_word_steps.specs.Needs.{Needs, AreNeeds}
 use Rattle.saa_word_steps.specs.declared.event.Event.{Event}
 use Rattle.saa_word_steps.specs.AbstractState.{AbstractState, is_in}
 use Rattle.saa_word_steps.specs.Steps.{going, operation_of, polled_as, cancelled_as, registered_as, started}
 use Rattle.saa_word_steps.specs.Readings.{is_idle, is_taken, mode_number}
 use Rattle.saa_word_steps.proofs.AbstractRuns.{waits-none}
-use Rattle.saa_word_proofs.specs.Refinement.{Refines}
+use Rattle.saa_word_proofs.specs.Refinement.{Invariant}
 use Rattle.saa_word_proofs.specs.Rows.{main_of}
 use Rattle.saa_word_proofs.specs.Registering.{is_slot}
 use Rattle.saa_word_proofs.specs.StepRefinement.{place_after, row_after}
@@ -36,21 +36,21 @@ use Rattle.saa_word_proofs.specs.StepBound.{IsLower, step_bound, way}
 use Rattle.saa_word_proofs.proofs.StepBoundLemmas.Lowered.{lowered}
 use Rattle.saa_word_proofs.proofs.StepBoundLemmas.Ways.{way-length}
 use Rattle.saa_word_proofs.proofs.StepBoundLemmas.Lines.{uncut-way}
-use Rattle.saa_word_proofs.specs.Alone.{Moment, IsDoneIn, IsEither, IsQuiet, next_at, put, stepped}
+use Rattle.saa_word_proofs.specs.Alone.{Configuration, IsDoneIn, IsEither, PlacesAreQuiescent, next_at, put, stepped}
 use Rattle.saa_word_proofs.specs.Ends.{Ends}
 use Rattle.saa_word_proofs.proofs.SoloLemmas.Quiet.{at-rest}
 use Rattle.saa_word_proofs.proofs.SoloLemmas.Waiting.{Moves, moves-first, moves-on, moves-waits, poll-next}
 
 -- a place is done in so many steps at most, from a moment on
-pub record Finishes (needs : Needs) (places me : ℕ) (now : Moment) (most : ℕ) : Type 0 where
+pub record Finishes (needs : Needs) (places me : ℕ) (now : Configuration) (most : ℕ) : Type 0 where
   pub steps : ℕ
   pub answer : Answer
-  pub last : Moment
+  pub last : Configuration
   pub done : IsDoneIn needs places me steps now answer last
   pub few : steps ≤ most
 
 -- a step with which it is done
-done-now : (needs : Needs) (places me : ℕ) (now : Moment) (most : ℕ) (place : Place) (answer : Answer) → next_at needs places me now ≡ Done place answer
+done-now : (needs : Needs) (places me : ℕ) (now : Configuration) (most : ℕ) (place : Place) (answer : Answer) → next_at needs places me now ≡ Done place answer
     → 0 < most → Finishes needs places me now most
 done-now needs places me now most place answer is some = record {
   steps = suc zero;
@@ -62,7 +62,7 @@ done-now needs places me now most place answer is some = record {
 }
 
 -- how it finishes, by how it goes on
-onward : (needs : Needs) (places me : ℕ) (now : Moment) (most : ℕ) (next : Next) → next_at needs places me now ≡ next → (next ≡ Waits → ⊥)
+onward : (needs : Needs) (places me : ℕ) (now : Configuration) (most : ℕ) (next : Next) → next_at needs places me now ≡ next → (next ≡ Waits → ⊥)
     → ((place : Place) → next ≡ Going place → Finishes needs places me (stepped needs places me now) most)
     → Finishes needs places me now (suc most)
 onward needs places me now most (Going place) is never more =
@@ -78,7 +78,7 @@ onward needs places me now most Waits is never more = absurd (never refl)
 onward needs places me now most (Done place answer) is never more = done-now needs places me now (suc most) place answer is (omega arith)
 
 -- a stage of a call isn't that of a place in none
-in-call : (needs : Needs) (call : WordCall) (registered : Registration) (back : Back) (stage : Stage) (names : List Event)
+in-call : (needs : Needs) (call : WordCall) (registered : Registration) (back : AfterWalk) (stage : Stage) (names : List Event)
     → IsUnder needs call registered back stage names → stage ≢ Quiet
 in-call needs call registered back stage names under is = absurd (subst (λ (s : Stage). IsUnder needs call registered back s names) is under)
 
@@ -91,7 +91,7 @@ some-left ways number before (Done place answer) lower = lower.1
 -- A call that doesn't poll is done, with as many steps as its step bound at most
 finishes : (needs : Needs) → AreNeeds needs → needs.top < 2 ^ count_bits → (places me : ℕ) → places < 65536 → me < places
     → (call : WordCall) (registered : Registration) → (call ≡ Poll → ⊥)
-    → (most : ℕ) (now : Moment) → Moves needs places me call registered now
+    → (most : ℕ) (now : Configuration) → Moves needs places me call registered now
     → step_bound places now.row (now.standing me).back (now.standing me).stage ≤ most → Finishes needs places me now most
 finishes needs lawful wide places me room here call registered asks zero now m small =
     let stage : Stage = (now.standing me).stage in
@@ -124,21 +124,21 @@ IsFew places row most (Going place) = step_bound places row place.back place.sta
 IsFew places row most _ = Unit {0}
 
 -- few steps are left where a call starts: a poll, a cancel and a registration
-poll-few : (places : ℕ) (row : ℕ → ℕ) (most : ℕ) (place : Place) (taking : Taking) (registration : Registration)
+poll-few : (places : ℕ) (row : ℕ → ℕ) (most : ℕ) (place : Place) (taking : PollMode) (registration : Registration)
     → step_bound places row place.back (Take taking) ≤ most → IsFew places row most (polled_as place taking registration)
 poll-few places row most place taking Idle small = tt
-poll-few places row most place taking (Once value request) small = tt
-poll-few places row most place taking (Slot request) small = small
+poll-few places row most place taking (AnsweredAtOnce value request) small = tt
+poll-few places row most place taking (Queued request) small = small
 
 cancel-few : (needs : Needs) (places : ℕ) (row : ℕ → ℕ) (most : ℕ) (place : Place) (registration : Registration)
     → 8 * way places row (main_of row).tail + 11 ≤ most → IsFew places row most (cancelled_as needs place registration)
 cancel-few needs places row most place Idle small = tt
-cancel-few needs places row most place (Once value request) small =
+cancel-few needs places row most place (AnsweredAtOnce value request) small =
     elim (cases_Bool (is_taken_up needs request value)) [
       | inl up ↦ rw up (omega (arith, small))
       | inr free ↦ rw free tt
     ]
-cancel-few needs places row most place (Slot request) small = small
+cancel-few needs places row most place (Queued request) small = small
 
 register-few : (places : ℕ) (row : ℕ → ℕ) (most : ℕ) (place : Place) (request : ℕ) → 3 ≤ most → IsFew places row most (registered_as place request)
 register-few places row most place request small =
@@ -175,7 +175,7 @@ start-few needs places row most place Cancel small = cancel-few needs places row
 start-few needs places row most place call small = omega (arith, small)
 
 -- a call that starts is done, where it is once it goes on
-begins : (needs : Needs) (places me : ℕ) (call : WordCall) (registered : Registration) (now : Moment) (most : ℕ) (next : Next)
+begins : (needs : Needs) (places me : ℕ) (call : WordCall) (registered : Registration) (now : Configuration) (most : ℕ) (next : Next)
     → started needs (now.standing me) call ≡ next → IsBegun needs call registered next
     → ((place : Place) → next ≡ Going place → Finishes needs places me (put me (Going place) now) most)
     → Ends needs places me call now most
@@ -207,14 +207,14 @@ has-answer waits due None none nobody held = absurd (omega (arith, none, held, a
 has-answer waits due (Some value) none nobody held = (value, refl)
 
 -- a poll of a place that isn't in the line is done in one step
-polled : (needs : Needs) (places me : ℕ) (now : Moment) (state : AbstractState) (most : ℕ) → me < places → Refines needs places now.row now.standing state
-    → IsQuiet now.standing → is_in me state.line ≡ false → 0 < most
+polled : (needs : Needs) (places me : ℕ) (now : Configuration) (state : AbstractState) (most : ℕ) → me < places → Invariant needs places now.row now.standing state
+    → PlacesAreQuiescent now.standing → is_in me state.line ≡ false → 0 < most
     → (registration : Registration) → (now.standing me).registration ≡ registration
     → (place : Place) → polled_as (now.standing me) Awaits registration ≡ Going place
     → Finishes needs places me (put me (polled_as (now.standing me) Awaits registration) now) most
 polled needs places me now state most here s quiet absent some Idle is place goes = absurd (cc)
-polled needs places me now state most here s quiet absent some (Once value request) is place goes = absurd (cc)
-polled needs places me now state most here s quiet absent some (Slot request) is place goes =
+polled needs places me now state most here s quiet absent some (AnsweredAtOnce value request) is place goes = absurd (cc)
+polled needs places me now state most here s quiet absent some (Queued request) is place goes =
     let rest = at-rest needs places now.row now.standing state s quiet in
     let found = has-answer (times me state.line) (state.due me) (state.shown me) (waits-none me state.line absent) (rest.paid me)
     (s.seats.held me ∙ ap (λ (r : Registration). one_if (is_slot r)) is) in
@@ -225,11 +225,11 @@ polled needs places me now state most here s quiet absent some (Slot request) is
 
 -- Whatever call it is
 pub ends : (needs : Needs) → AreNeeds needs → needs.top < 2 ^ count_bits → (places : ℕ) (row : ℕ → ℕ) (standing : ℕ → Place) (state : AbstractState) (me : ℕ) (call : WordCall)
-    → places < 65536 → me < places → Refines needs places row standing state → IsQuiet standing → is_taken needs.is_lock call ≡ true
+    → places < 65536 → me < places → Invariant needs places row standing state → PlacesAreQuiescent standing → is_taken needs.is_lock call ≡ true
     → (call ≡ Poll → is_in me state.line ≡ false)
     → Ends needs places me call (record { row = row; standing = standing }) (8 * length state.line + 24)
 ends needs lawful wide places row standing state me call room here s quiet taken absent =
-    let now : Moment = record { row = row; standing = standing } in
+    let now : Configuration = record { row = row; standing = standing } in
     let next : Next = started needs (standing me) call in
     let way_is = way-length places row (main_of row).tail s.uncut (uncut-way needs places row standing state s) in
     let parts : length state.line ≡ length s.cut + length s.uncut = ap length s.line.parts ∙ length-append s.cut s.uncut in
@@ -242,7 +242,7 @@ ends needs lawful wide places row standing state me call room here s quiet taken
         → (place : Place) → started needs (standing me) call ≡ Going place
         → Finishes needs places me (put me (Going place) (record { row = row; standing = standing })) (8 * length state.line + 24)
     other call taken asks small place is =
-        let now : Moment = record { row = row; standing = standing } in
+        let now : Configuration = record { row = row; standing = standing } in
         let few : step_bound places row place.back place.stage ≤ 8 * length state.line + 24 =
         subst (λ (n : Next). IsFew places row (8 * length state.line + 24) n) is
         (start-few needs places row (8 * length state.line + 24) (standing me) call small) in
@@ -256,7 +256,7 @@ ends needs lawful wide places row standing state me call room here s quiet taken
         → (place : Place) → started needs (standing me) call ≡ Going place
         → Finishes needs places me (put me (Going place) (record { row = row; standing = standing })) (8 * length state.line + 24)
     by-call Poll taken absent small place is =
-        let now : Moment = record { row = row; standing = standing } in
+        let now : Configuration = record { row = row; standing = standing } in
         subst (λ (n : Next). Finishes needs places me (put me n now) (8 * length state.line + 24)) is
         (polled needs places me now state (8 * length state.line + 24) here s quiet (absent refl) (omega arith) (standing me).registration refl place is)
     by-call call taken absent small place is = other call taken (λ poll. absurd (cc)) small place is

@@ -9,7 +9,7 @@ use Rattle.saa_word_steps.specs.declared.event.Event.TheVariants.{Closed, Grante
 use Rattle.saa_word_steps.specs.AbstractState.{AbstractState, IsEnabled, after_event, IsRun, IsFront, is_in, takes_of, answered_with}
 use Rattle.saa_word_proofs.specs.History.{is_named, named, of_place}
 use Rattle.saa_word_proofs.proofs.RefinementLemmas.Lists.{in-append, front-append, takes-append}
-use Rattle.saa_word_proofs.specs.Promises.{IsAtRest}
+use Rattle.saa_word_proofs.specs.Promises.{WordsAreQuiescent}
 use Rattle.saa_word_proofs.proofs.SoloLemmas.Mirroring.{Settles}
 
 -- Lists of events
@@ -197,7 +197,7 @@ grants-run needs me (event ∷ rest) start state last names run was =
 -- Where answers name nothing more, and nothing is due, the front of the line that fits is granted until the object is at rest
 pub settles : (needs : Needs) (me : ℕ) (events : List Event) (start last : AbstractState) (row : ℕ → ℕ) → named events ≡ []
     → IsRun needs start (of_place me events) last → ((place : ℕ) → start.due place ≡ None) → start.poisoned ≡ false
-    → IsAtRest needs row last → Settles needs start.count start.line start.shown last
+    → WordsAreQuiescent needs row last → Settles needs start.count start.line start.shown last
 settles needs me events start last row names run paid calm rests =
     let g : Grants needs start last =
     grants-run needs me events start start last names run

@@ -10,13 +10,13 @@ use Rattle.saa_core_spec.proofs.Counts.{same_number}
 use Rattle.saa_word_steps.specs.declared.rules.Rules.{Rules}
 use Rattle.saa_word_steps.specs.declared.rules.Rules.TheVariants.{Permits, Modes}
 use Rattle.saa_word_steps.specs.declared.place.Place.{Place}
-use Rattle.saa_word_steps.specs.declared.place.Given.TheVariants.{Asked}
+use Rattle.saa_word_steps.specs.declared.place.ReleaseAmount.TheVariants.{Requested}
 use Rattle.saa_word_steps.specs.declared.place.Registration.{Registration}
 use Rattle.saa_word_steps.specs.declared.call.Answer.TheVariants.{Bool as Says}
 use Rattle.saa_word_steps.specs.declared.call.WordCall.{WordCall}
 use Rattle.saa_word_steps.specs.declared.call.WordCall.TheVariants.{Release, ReleaseLock, ReleaseShare}
 use Rattle.saa_word_steps.specs.Needs.{Needs, left_count, lock_needs, needs_of}
-use Rattle.saa_word_steps.specs.declared.event.Event.TheVariants.{GaveNothing}
+use Rattle.saa_word_steps.specs.declared.event.Event.TheVariants.{ReleasedNothing}
 use Rattle.saa_word_steps.specs.AbstractState.{AbstractState, IsEnabled, IsSettledAt, is_in, takes_of, answered_with}
 use Rattle.saa_word_steps.specs.Readings.{is_taken}
 use Rattle.saa_word_proofs.specs.Refinement.{AreSeats}
@@ -25,7 +25,7 @@ use Rattle.saa_word_proofs.specs.Registering.{is_slot}
 use Rattle.saa_word_proofs.specs.CallStages.{given_by}
 use Rattle.saa_word_proofs.proofs.RefinementLemmas.Lists.{in-append}
 use Rattle.saa_word_proofs.specs.Represents.{entry_of, held_at, waiters}
-use Rattle.saa_word_proofs.specs.Alone.{Mirrors}
+use Rattle.saa_word_proofs.specs.Alone.{PlacesRepresent}
 use Rattle.saa_word_proofs.proofs.SoloLemmas.HeldAt.{held_of, less-at, for-something, held-calm, held-poisoned}
 use Rattle.saa_word_proofs.proofs.SoloLemmas.Fronts.{entry-answered, length-answered, settled-front}
 use Rattle.saa_word_proofs.proofs.SoloLemmas.Commands.{given_back_by, release-call}
@@ -39,7 +39,7 @@ AreWaiting standing state = (place : ℕ) → is_in place state.line ≡ true �
 
 -- the entries of a front are answered and shown, and no others
 pub answered-entries : (value : ℕ) (needs : Needs) (places : ℕ) (standing : ℕ → Place) (state : AbstractState) (s : Object) (front rest : List (ℕ × ℕ)) (shown : ℕ → Option ℕ)
-    → Mirrors needs places standing state s → AreWaiting standing state → state.line ≡ front ++ rest
+    → PlacesRepresent needs places standing state s → AreWaiting standing state → state.line ≡ front ++ rest
     → ((place : ℕ) → shown place ≡ answered_with value front state.shown place)
     → AreEntries needs places standing shown (answered_in value (waiters needs front) s.book)
 answered-entries value needs places standing state s front rest shown m waiting parts says other within =
@@ -65,9 +65,9 @@ answered-entries value needs places standing state s front rest shown m waiting 
     ]
 
 -- settling is granting a front and showing it
-pub settling : (rules : Rules) (places : ℕ) (standing : ℕ → Place) (state now : AbstractState) (s : Object) → Mirrors (needs_of rules) places standing state s
+pub settling : (rules : Rules) (places : ℕ) (standing : ℕ → Place) (state now : AbstractState) (s : Object) → PlacesRepresent (needs_of rules) places standing state s
     → state.poisoned ≡ false → AreWaiting standing state → Settles (needs_of rules) state.count state.line state.shown now
-    → Mirrors (needs_of rules) places standing now (settled s)
+    → PlacesRepresent (needs_of rules) places standing now (settled s)
 settling rules places standing state now s m calm waiting g =
     let needs : Needs = needs_of rules in
     let all : List Waiter = waiters needs g.front in
@@ -79,7 +79,7 @@ settling rules places standing state now s m calm waiting g =
     let settles : settled s ≡ behind =
     settled-front rules state.count g.front now.line s (m.held ∙ held-calm needs state calm) (m.line ∙ ap (waiters needs) g.parts) g.fits
     (subst (λ (n : ℕ). IsSettledAt needs n now.line) g.count g.settled) in
-    let after : Mirrors needs places standing now behind = record {
+    let after : PlacesRepresent needs places standing now behind = record {
       held = ap needs.held (sym g.count) ∙ sym (held-calm needs now g.calm);
       line = refl;
       names = length-answered 0 all s.book ∙ m.names;
@@ -87,7 +87,7 @@ settling rules places standing state now s m calm waiting g =
       room = m.room;
       alone = m.alone;
     } in
-    subst (λ (o : Object). Mirrors needs places standing now o) (sym settles) after
+    subst (λ (o : Object). PlacesRepresent needs places standing now o) (sym settles) after
 
 -- Giving back
 
@@ -104,7 +104,7 @@ giving-back rules state s request left held calm bounded some gives =
 
 -- what isn't held isn't given back
 pub giving-nothing : (rules : Rules) (state : AbstractState) (s : Object) (me request : ℕ) → s.held ≡ held_at (needs_of rules) state
-    → state.count ≤ (needs_of rules).top → (needs_of rules).takes request == 0 ≡ false → IsEnabled (needs_of rules) state me (GaveNothing request)
+    → state.count ≤ (needs_of rules).top → (needs_of rules).takes request == 0 ≡ false → IsEnabled (needs_of rules) state me (ReleasedNothing request)
     → given_back s ((needs_of rules).read request) ≡ record { state = s; reply = false }
 giving-nothing rules state s me request held bounded some allowed =
     let needs : Needs = needs_of rules in
@@ -120,7 +120,7 @@ giving-nothing rules state s me request held bounded some allowed =
 -- Releases
 
 -- what a release gives back takes something
-release-takes : (rules : Rules) (call : WordCall) (given : ℕ) → given_by call ≡ Some (Asked given) → is_taken (needs_of rules).is_lock call ≡ true
+release-takes : (rules : Rules) (call : WordCall) (given : ℕ) → given_by call ≡ Some (Requested given) → is_taken (needs_of rules).is_lock call ≡ true
     → ((needs_of rules).is_lock ≡ false → given == 0 ≡ false) → (needs_of rules).takes given == 0 ≡ false
 release-takes (Permits bound) call given gives taken some = some refl
 release-takes Modes ReleaseLock given gives taken some =
@@ -145,7 +145,7 @@ waiting-same places me standing state place seats same other there =
     )
 
 pub release-gave : (rules : Rules) (places me : ℕ) (is_sync : Bool) (call : WordCall) (standing : ℕ → Place) (state : AbstractState) (s : Object) (given left : ℕ) (now : AbstractState) (place : Place)
-    → Starts (needs_of rules) places me standing state s → given_by call ≡ Some (Asked given) → is_taken (needs_of rules).is_lock call ≡ true
+    → Starts (needs_of rules) places me standing state s → given_by call ≡ Some (Requested given) → is_taken (needs_of rules).is_lock call ≡ true
     → ((needs_of rules).is_lock ≡ false → given == 0 ≡ false)
     → state.poisoned ≡ false → left_count (needs_of rules) state.count given ≡ Some left
     → Settles (needs_of rules) left state.line state.shown now → place.registration ≡ (standing me).registration
@@ -155,7 +155,7 @@ release-gave rules places me is_sync call standing state s given left now place 
     let m = h.mirrors in
     let middle : AbstractState = record state { count = left } in
     let given_up : Object = record s { held = needs.held left } in
-    let between : Mirrors needs places (updated standing me place) middle given_up =
+    let between : PlacesRepresent needs places (updated standing me place) middle given_up =
     mirrors-held needs places standing state middle s (needs.held left) s.line me place m (sym (held-calm needs middle calm)) m.line refl same in
     answers-by needs places me is_sync call (updated standing me place) s now (Says true) (given_back_by (record { state = settled given_up; reply = true }))
     (release-call rules me is_sync call s given gives taken
@@ -164,9 +164,9 @@ release-gave rules places me is_sync call standing state s given left now place 
     refl
 
 pub release-nothing : (rules : Rules) (places me : ℕ) (is_sync : Bool) (call : WordCall) (standing : ℕ → Place) (state : AbstractState) (s : Object) (given : ℕ) (place : Place)
-    → Starts (needs_of rules) places me standing state s → given_by call ≡ Some (Asked given) → is_taken (needs_of rules).is_lock call ≡ true
+    → Starts (needs_of rules) places me standing state s → given_by call ≡ Some (Requested given) → is_taken (needs_of rules).is_lock call ≡ true
     → ((needs_of rules).is_lock ≡ false → given == 0 ≡ false)
-    → IsEnabled (needs_of rules) state me (GaveNothing given) → place.registration ≡ (standing me).registration
+    → IsEnabled (needs_of rules) state me (ReleasedNothing given) → place.registration ≡ (standing me).registration
     → Answers (needs_of rules) places me is_sync call (updated standing me place) s state (Says false)
 release-nothing rules places me is_sync call standing state s given place h gives taken some allowed same =
     let needs : Needs = needs_of rules in

@@ -24,7 +24,7 @@ use Rattle.saa_word_steps.specs.Readings.{is_taken, read_as}
 use Rattle.saa_word_proofs.specs.Rows.{updated}
 use Rattle.saa_word_proofs.specs.CallStages.{read_by}
 use Rattle.saa_word_proofs.specs.Represents.{called, held_at, waiters}
-use Rattle.saa_word_proofs.specs.Alone.{Mirrors}
+use Rattle.saa_word_proofs.specs.Alone.{PlacesRepresent}
 use Rattle.saa_word_proofs.proofs.SoloLemmas.HeldAt.{held-calm, held-poisoned, lock-free, lock-alone, lock-shared}
 use Rattle.saa_word_proofs.proofs.SoloLemmas.Fronts.{length-answered}
 use Rattle.saa_word_proofs.proofs.SoloLemmas.Givings.{answered-entries, settling, waiting-same}
@@ -160,7 +160,7 @@ downgrade-done Modes places me is_sync standing state s now place h taken allowe
     let m = h.mirrors in
     let middle : AbstractState = record state { count = 1 } in
     let lowered : Object = record s { held = OfLock (Shared 1) } in
-    let between : Mirrors lock_needs places (updated standing me place) middle lowered =
+    let between : PlacesRepresent lock_needs places (updated standing me place) middle lowered =
     mirrors-held lock_needs places standing state middle s (OfLock (Shared 1)) s.line me place m (sym (held-calm lock_needs middle allowed.0)) m.line refl same in
     answers-by lock_needs places me is_sync Downgrade (updated standing me place) s now (Says true) (said (settled lowered) (Says true))
     (ap (λ (b : Bool). said (downgraded_of s b).state (Says (downgraded_of s b).reply)) (is-owned places me standing state s h allowed))
@@ -195,7 +195,7 @@ poison-done Modes places me is_sync standing state s now place h taken allowed p
     let all : List Waiter = waiters lock_needs state.line in
     let left : Object = record s { held = OfLock Poisoned; line = []; book = answered_in 2 all s.book } in
     let whole : state.line ≡ state.line ++ [] = sym (append-nil state.line) in
-    let after : Mirrors lock_needs places (updated standing me place) now left = record {
+    let after : PlacesRepresent lock_needs places (updated standing me place) now left = record {
       held = sym (held-poisoned lock_needs now poisoned);
       line = sym (ap (waiters lock_needs) line);
       names = length-answered 2 all s.book ∙ m.names;

@@ -8,7 +8,7 @@ use Rattle.saa_core_spec.specs.Object.{Object, After, Entry, Idle, Waiting, Answ
 use Rattle.saa_core_spec.proofs.Counts.{same_number, one_if-le}
 use Rattle.saa_word_steps.specs.declared.place.Place.{Place}
 use Rattle.saa_word_steps.specs.declared.place.Registration.{Registration}
-use Rattle.saa_word_steps.specs.declared.place.Registration.TheVariants.{Idle as IsIdle, Once, Slot}
+use Rattle.saa_word_steps.specs.declared.place.Registration.TheVariants.{Idle as IsIdle, AnsweredAtOnce, Queued}
 use Rattle.saa_word_steps.specs.declared.call.Answer.{Answer}
 use Rattle.saa_word_steps.specs.declared.call.WordCall.{WordCall}
 use Rattle.saa_word_steps.specs.Needs.{Needs}
@@ -19,13 +19,13 @@ use Rattle.saa_word_proofs.specs.Registering.{is_slot}
 use Rattle.saa_word_proofs.proofs.RefinementLemmas.Lists.{each-updated}
 use Rattle.saa_word_proofs.proofs.RefinementLemmas.Granting.{in-waits}
 use Rattle.saa_word_proofs.specs.Represents.{called, entry_of, held_at, waiters}
-use Rattle.saa_word_proofs.specs.Alone.{Mirrors}
+use Rattle.saa_word_proofs.specs.Alone.{PlacesRepresent}
 use Rattle.saa_word_proofs.proofs.SoloLemmas.Fronts.{entry-set, entry-other}
 
 -- What is known of a moment when no place is in a call, of a place that makes one
 pub record Starts (needs : Needs) (places me : ℕ) (standing : ℕ → Place) (state : AbstractState) (s : Object) : Type 0 where
   pub here : me < places
-  pub mirrors : Mirrors needs places standing state s
+  pub mirrors : PlacesRepresent needs places standing state s
   pub seats : AreSeats places standing state
   pub paid : (place : ℕ) → state.due place ≡ None
   pub bounded : state.count ≤ needs.top
@@ -43,15 +43,15 @@ pub record Settles (needs : Needs) (held : ℕ) (line : List (ℕ × ℕ)) (befo
 
 -- What a call of the sequential object is beside a place that goes on so, with such an answer
 pub record Answers (needs : Needs) (places me : ℕ) (is_sync : Bool) (call : WordCall) (standing : ℕ → Place) (s : Object) (state : AbstractState) (answer : Answer) : Type 0 where
-  pub mirrors : Mirrors needs places standing state (called needs.is_lock me is_sync call s).state
+  pub mirrors : PlacesRepresent needs places standing state (called needs.is_lock me is_sync call s).state
   pub same : (called needs.is_lock me is_sync call s).reply ≡ answer
 
 -- it is told by what the call leaves and says
 pub answers-by : (needs : Needs) (places me : ℕ) (is_sync : Bool) (call : WordCall) (standing : ℕ → Place) (s : Object) (state : AbstractState) (answer : Answer) (after : After Answer)
-    → called needs.is_lock me is_sync call s ≡ after → Mirrors needs places standing state after.state → after.reply ≡ answer
+    → called needs.is_lock me is_sync call s ≡ after → PlacesRepresent needs places standing state after.state → after.reply ≡ answer
     → Answers needs places me is_sync call standing s state answer
 answers-by needs places me is_sync call standing s state answer after is left says = record {
-  mirrors = subst (λ (a : After Answer). Mirrors needs places standing state a.state) (sym is) left;
+  mirrors = subst (λ (a : After Answer). PlacesRepresent needs places standing state a.state) (sym is) left;
   same = ap (λ (a : After Answer). a.reply) is ∙ says;
 }
 
@@ -73,8 +73,8 @@ AreEntries needs places standing shown book =
 
 -- what the object holds, and its line, change, and no entry does
 pub mirrors-held : (needs : Needs) (places : ℕ) (standing : ℕ → Place) (state now : AbstractState) (s : Object) (held : Held) (line : List Waiter) (me : ℕ) (place : Place)
-    → Mirrors needs places standing state s → held ≡ held_at needs now → line ≡ waiters needs now.line → now.shown ≡ state.shown
-    → place.registration ≡ (standing me).registration → Mirrors needs places (updated standing me place) now (record s { held = held; line = line })
+    → PlacesRepresent needs places standing state s → held ≡ held_at needs now → line ≡ waiters needs now.line → now.shown ≡ state.shown
+    → place.registration ≡ (standing me).registration → PlacesRepresent needs places (updated standing me place) now (record s { held = held; line = line })
 mirrors-held needs places standing state now s held line me place was holds waits shown same = record {
   held = holds;
   line = waits;
@@ -91,15 +91,15 @@ mirrors-held needs places standing state now s held line me place was holds wait
 
 -- nothing changes but what the place remembers
 pub mirrors-same : (needs : Needs) (places : ℕ) (standing : ℕ → Place) (state : AbstractState) (s : Object) (me : ℕ) (place : Place)
-    → Mirrors needs places standing state s → place.registration ≡ (standing me).registration → Mirrors needs places (updated standing me place) state s
+    → PlacesRepresent needs places standing state s → place.registration ≡ (standing me).registration → PlacesRepresent needs places (updated standing me place) state s
 mirrors-same needs places standing state s me place was same =
     mirrors-held needs places standing state state s s.held s.line me place was was.held was.line refl same
 
 -- one place is registered anew
 pub mirrors-set : (needs : Needs) (places : ℕ) (standing : ℕ → Place) (state now : AbstractState) (s : Object) (held : Held) (line : List Waiter) (entry : Entry) (me : ℕ) (place : Place) (is_sync : Bool)
-    → Mirrors needs places standing state s → me < places → held ≡ held_at needs now → line ≡ waiters needs now.line
+    → PlacesRepresent needs places standing state s → me < places → held ≡ held_at needs now → line ≡ waiters needs now.line
     → ((other : ℕ) → (other ≡ me → ⊥) → now.shown other ≡ state.shown other) → entry ≡ entry_of needs place.registration (now.shown me) is_sync
-    → Mirrors needs places (updated standing me place) now (record s { held = held; line = line; book = slice_set s.book me entry })
+    → PlacesRepresent needs places (updated standing me place) now (record s { held = held; line = line; book = slice_set s.book me entry })
 mirrors-set needs places standing state now s held line entry me place is_sync was here holds waits shown is = record {
   held = holds;
   line = waits;
@@ -116,9 +116,9 @@ mirrors-set needs places standing state now s held line entry me place is_sync w
 
 -- a place becomes idle, and nothing else changes
 pub mirrors-idle : (needs : Needs) (places : ℕ) (standing : ℕ → Place) (state now : AbstractState) (s : Object) (me : ℕ) (place : Place)
-    → Mirrors needs places standing state s → me < places → held_at needs now ≡ held_at needs state → now.line ≡ state.line
+    → PlacesRepresent needs places standing state s → me < places → held_at needs now ≡ held_at needs state → now.line ≡ state.line
     → ((other : ℕ) → (other ≡ me → ⊥) → now.shown other ≡ state.shown other) → place.registration ≡ IsIdle
-    → Mirrors needs places (updated standing me place) now (record s { book = slice_set s.book me Idle })
+    → PlacesRepresent needs places (updated standing me place) now (record s { book = slice_set s.book me Idle })
 mirrors-idle needs places standing state now s me place was here held line shown idle =
     mirrors-set needs places standing state now s s.held s.line Idle me place false was here (was.held ∙ sym held)
     (was.line ∙ ap (waiters needs) (sym line)) shown (sym (ap (λ (r : Registration). entry_of needs r (now.shown me) false) idle))
@@ -134,32 +134,32 @@ taken-other me answer shown other apart =
 -- Entries
 
 -- the entry of a place that is idle
-pub idle-entry : (needs : Needs) (places me : ℕ) (standing : ℕ → Place) (state : AbstractState) (s : Object) → Mirrors needs places standing state s → me < places
+pub idle-entry : (needs : Needs) (places me : ℕ) (standing : ℕ → Place) (state : AbstractState) (s : Object) → PlacesRepresent needs places standing state s → me < places
     → (standing me).registration ≡ IsIdle → entry_at s.book me ≡ Idle
 idle-entry needs places me standing state s m here idle =
     let h = m.entries me here in
     h.1 ∙ ap (λ (r : Registration). entry_of needs r (state.shown me) h.0) idle
 
 -- of one that was answered at once
-pub once-entry : (needs : Needs) (places me : ℕ) (standing : ℕ → Place) (state : AbstractState) (s : Object) (value request : ℕ) → Mirrors needs places standing state s
-    → me < places → (standing me).registration ≡ Once value request
+pub once-entry : (needs : Needs) (places me : ℕ) (standing : ℕ → Place) (state : AbstractState) (s : Object) (value request : ℕ) → PlacesRepresent needs places standing state s
+    → me < places → (standing me).registration ≡ AnsweredAtOnce value request
     → (mode : Bool) × (entry_at s.book me ≡ Answered value (needs.read request) mode false)
 once-entry needs places me standing state s value request m here once =
     let h = m.entries me here in
     (h.0, h.1 ∙ ap (λ (r : Registration). entry_of needs r (state.shown me) h.0) once)
 
 -- of one whose answer is shown
-pub shown-entry : (needs : Needs) (places me : ℕ) (standing : ℕ → Place) (state : AbstractState) (s : Object) (value request : ℕ) → Mirrors needs places standing state s
-    → me < places → (standing me).registration ≡ Slot request → state.shown me ≡ Some value
+pub shown-entry : (needs : Needs) (places me : ℕ) (standing : ℕ → Place) (state : AbstractState) (s : Object) (value request : ℕ) → PlacesRepresent needs places standing state s
+    → me < places → (standing me).registration ≡ Queued request → state.shown me ≡ Some value
     → (mode : Bool) × (entry_at s.book me ≡ Answered value (needs.read request) mode true)
 shown-entry needs places me standing state s value request m here slot shown =
     let h = m.entries me here in
     (h.0, h.1 ∙ (λ i. entry_of needs (slot i) (shown i) h.0))
 
-pub slot-is : (registration : Registration) → is_slot registration ≡ true → (request : ℕ) × (registration ≡ Slot request)
+pub slot-is : (registration : Registration) → is_slot registration ≡ true → (request : ℕ) × (registration ≡ Queued request)
 slot-is IsIdle slot = absurd (cc)
-slot-is (Once value request) slot = absurd (cc)
-slot-is (Slot request) slot = (request, refl)
+slot-is (AnsweredAtOnce value request) slot = absurd (cc)
+slot-is (Queued request) slot = (request, refl)
 
 -- a place that is shown an answer joined the line, and so did a waiter, which is shown none
 pub shown-slot : (places me : ℕ) (standing : ℕ → Place) (state : AbstractState) (value : ℕ) → AreSeats places standing state → state.shown me ≡ Some value
@@ -186,7 +186,7 @@ waits-slot places me standing state seats waits =
     none-shown (Some value) none = absurd (omega (arith, none))
 
 -- the entry of a place that stands in the line
-pub waiting-entry : (needs : Needs) (places me : ℕ) (standing : ℕ → Place) (state : AbstractState) (s : Object) → Mirrors needs places standing state s
+pub waiting-entry : (needs : Needs) (places me : ℕ) (standing : ℕ → Place) (state : AbstractState) (s : Object) → PlacesRepresent needs places standing state s
     → AreSeats places standing state → me < places → is_in me state.line ≡ true
     → (request : Request) × (mode : Bool) × (entry_at s.book me ≡ Waiting request mode)
 waiting-entry needs places me standing state s m seats here there =

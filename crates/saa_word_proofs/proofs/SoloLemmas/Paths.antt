@@ -7,22 +7,22 @@ use Rattle.saa_core_words.specs.declared.word.Word.{Word}
 use Rattle.saa_core_words.specs.declared.line_word.LineWord.{LineWord}
 use Rattle.saa_core_words.specs.Words.{count_bits, word_number, word_of, line_word_of, answer_of, lock_count}
 use Rattle.saa_word_steps.specs.declared.place.Place.{Place}
-use Rattle.saa_word_steps.specs.declared.place.Given.{Given}
-use Rattle.saa_word_steps.specs.declared.place.Given.TheVariants.{Asked, AllButAShare}
+use Rattle.saa_word_steps.specs.declared.place.ReleaseAmount.{ReleaseAmount}
+use Rattle.saa_word_steps.specs.declared.place.ReleaseAmount.TheVariants.{Requested, AllButAShare}
 use Rattle.saa_word_steps.specs.declared.place.Registration.{Registration}
 use Rattle.saa_word_steps.specs.declared.place.Ask.{Ask}
-use Rattle.saa_word_steps.specs.declared.place.Afterwards.{Afterwards}
-use Rattle.saa_word_steps.specs.declared.place.Afterwards.TheVariants.{Ends, Again}
-use Rattle.saa_word_steps.specs.declared.place.Back.{Back}
-use Rattle.saa_word_steps.specs.declared.place.Back.TheVariants.{Tells, Ends as EndsCall, Takes}
-use Rattle.saa_word_steps.specs.declared.place.Taking.{Taking}
-use Rattle.saa_word_steps.specs.declared.place.Taking.TheVariants.{Tries, Awaits, Gives}
+use Rattle.saa_word_steps.specs.declared.place.AfterShow.{AfterShow}
+use Rattle.saa_word_steps.specs.declared.place.AfterShow.TheVariants.{Ends, Again}
+use Rattle.saa_word_steps.specs.declared.place.AfterWalk.{AfterWalk}
+use Rattle.saa_word_steps.specs.declared.place.AfterWalk.TheVariants.{Tells, Ends as EndsCall, Takes}
+use Rattle.saa_word_steps.specs.declared.place.PollMode.{PollMode}
+use Rattle.saa_word_steps.specs.declared.place.PollMode.TheVariants.{Tries, Awaits, Gives}
 use Rattle.saa_word_steps.specs.declared.place.Stage.{Stage}
-use Rattle.saa_word_steps.specs.declared.place.Stage.TheVariants.{Quiet, ReadLoad, AskLoad, AskExchange, Prepare, Join, ReleaseLoad, ReleaseExchange, BackLoad, BackStore, Forward, CutToClose, CutToGoRound, Close, Empty, GoRound, ShowLoad, ShowStore, Take, FlagLoad, FlagExchange, LookLoad, LookStore, Unlink, DropTail, PoisonLoad, PoisonExchange, Clear}
+use Rattle.saa_word_steps.specs.declared.place.Stage.TheVariants.{Quiet, ReadLoad, AcquireLoad, AcquireExchange, Prepare, Join, ReleaseLoad, ReleaseExchange, BackLoad, BackStore, Forward, CutToClose, CutForRetry, Close, Empty, Retry, ShowLoad, ShowStore, Take, FlagLoad, FlagExchange, LookLoad, LookStore, Unlink, DropTail, PoisonLoad, PoisonExchange, Clear}
 use Rattle.saa_word_steps.specs.declared.call.WordCall.{WordCall}
 use Rattle.saa_word_steps.specs.Needs.{Needs, fits_count}
 use Rattle.saa_word_steps.specs.declared.event.Event.{Event}
-use Rattle.saa_word_steps.specs.declared.event.Event.TheVariants.{Got}
+use Rattle.saa_word_steps.specs.declared.event.Event.TheVariants.{Acquired}
 use Rattle.saa_word_steps.specs.Steps.{left_from, next_of, decided, granted, given, given_to, gave_nothing, finished, taken_answer, looked_at, closing, shown_all, flagging, poisoning}
 use Rattle.saa_word_steps.specs.Readings.{poisoned_word}
 use Rattle.saa_word_proofs.specs.Refinement.{waits_behind}
@@ -38,7 +38,7 @@ left-append (event ∷ first) second asks was = left-append first second asks (r
 
 -- Asks
 
-granted-left : (needs : Needs) (place : Place) (ask : Ask) → IsLeft place.registration (registration_after_event (Got ask.request) (Some ask) place.registration) (granted needs place ask)
+granted-left : (needs : Needs) (place : Place) (ask : Ask) → IsLeft place.registration (registration_after_event (Acquired ask.request) (Some ask) place.registration) (granted needs place ask)
 granted-left needs place ask =
     elim (cases_Bool ask.joins) [
       | inl joins ↦ rw joins (refl, refl)
@@ -76,21 +76,21 @@ asks-left needs asks place ask seen is = rw is (decided-left needs place ask see
 
 -- Releases
 
-gave_nothing-left : (place : Place) (back : Back) → IsLeft place.registration place.registration (gave_nothing place back)
+gave_nothing-left : (place : Place) (back : AfterWalk) → IsLeft place.registration place.registration (gave_nothing place back)
 gave_nothing-left place Tells = (refl, refl)
 gave_nothing-left place EndsCall = (refl, refl)
 gave_nothing-left place (Takes request) = (refl, refl)
 
 -- what is given back, and what isn't held, leaves the registration
-gave-leaves : (what : Given) (asks : Option Ask) (was : Registration) → registration_after_event (gave what) asks was ≡ was
-gave-leaves (Asked request) asks was = refl
+gave-leaves : (what : ReleaseAmount) (asks : Option Ask) (was : Registration) → registration_after_event (gave what) asks was ≡ was
+gave-leaves (Requested request) asks was = refl
 gave-leaves AllButAShare asks was = refl
 
-nothing-leaves : (what : Given) (asks : Option Ask) (was : Registration) → registration_after_event (gave_not what) asks was ≡ was
-nothing-leaves (Asked request) asks was = refl
+nothing-leaves : (what : ReleaseAmount) (asks : Option Ask) (was : Registration) → registration_after_event (gave_not what) asks was ≡ was
+nothing-leaves (Requested request) asks was = refl
 nothing-leaves AllButAShare asks was = refl
 
-given-left : (needs : Needs) (asks : Option Ask) (place : Place) (what : Given) (seen : Word)
+given-left : (needs : Needs) (asks : Option Ask) (place : Place) (what : ReleaseAmount) (seen : Word)
     → IsLeft place.registration (registration_after (given_events needs what seen) asks place.registration) (given needs place what seen)
 given-left needs asks place what seen = by-poison seen.is_poisoned
   where
@@ -110,7 +110,7 @@ given-left needs asks place what seen = by-poison seen.is_poisoned
     by-poison true = nothing
     by-poison false = by-left (left_from needs seen.count what)
 
-finished-left : (place : Place) (back : Back) → IsLeft place.registration place.registration (finished place back)
+finished-left : (place : Place) (back : AfterWalk) → IsLeft place.registration place.registration (finished place back)
 finished-left place Tells = (refl, refl)
 finished-left place EndsCall = (refl, refl)
 finished-left place (Takes request) = refl
@@ -148,13 +148,13 @@ closing-left place seen count top found =
           ]
     ]
 
-shown-left : (place : Place) (afterwards : Afterwards) → IsLeft place.registration place.registration (shown_all place afterwards)
+shown-left : (place : Place) (afterwards : AfterShow) → IsLeft place.registration place.registration (shown_all place afterwards)
 shown-left place Ends = finished-left place place.back
 shown-left place (Again seen) = refl
 
 -- Polls and cancels
 
-taken-left : (needs : Needs) (asks : Option Ask) (place : Place) (taking : Taking) (answer : Option ℕ)
+taken-left : (needs : Needs) (asks : Option Ask) (place : Place) (taking : PollMode) (answer : Option ℕ)
     → IsLeft place.registration (registration_after (taken_events taking answer) asks place.registration) (taken_answer needs place taking answer)
 taken-left needs asks place Tries None = (refl, refl)
 taken-left needs asks place Tries (Some value) = (refl, refl)
@@ -198,8 +198,8 @@ pub left-next : (needs : Needs) (call : WordCall) (registered : Registration) (m
     → IsLeft place.registration (registration_after (named_at needs stage found) (asked_by call) place.registration) (next_of needs me place stage found)
 left-next needs call registered me place Quiet found events h = absurd h
 left-next needs call registered me place (ReadLoad reading) found events h = (refl, refl)
-left-next needs call registered me place (AskLoad ask) found events h = asks-left needs (asked_by call) place ask (word_of count_bits found) h.0
-left-next needs call registered me place (AskExchange ask seen) found events h =
+left-next needs call registered me place (AcquireLoad ask) found events h = asks-left needs (asked_by call) place ask (word_of count_bits found) h.0
+left-next needs call registered me place (AcquireExchange ask seen) found events h =
     elim (cases_Bool (found == word_number count_bits seen)) [
       | inl hit ↦ rw (hit, h.0) (granted-left needs place ask)
       | inr missed ↦ rw missed (asks-left needs (asked_by call) place ask (word_of count_bits found) h.0)
@@ -229,7 +229,7 @@ left-next needs call registered me place (BackStore seen current newer line) fou
     ]
 left-next needs call registered me place (Forward seen current count) found events h = looked-left needs place seen current count (line_word_of found)
 left-next needs call registered me place (CutToClose seen current count line) found events h = refl
-left-next needs call registered me place (CutToGoRound seen current count line) found events h = refl
+left-next needs call registered me place (CutForRetry seen current count line) found events h = refl
 left-next needs call registered me place (Close seen count top) found events h = closing-left place seen count top found
 left-next needs call registered me place (Empty seen current count line) found events h =
     elim (cases_Bool (found == word_number count_bits seen)) [
@@ -240,7 +240,7 @@ left-next needs call registered me place (Empty seen current count line) found e
             | inr behind ↦ rw (missed, behind) refl
           ]
     ]
-left-next needs call registered me place (GoRound seen count top) found events h =
+left-next needs call registered me place (Retry seen count top) found events h =
     elim (cases_Bool (top == 0)) [
       | inl none ↦ rw none refl
       | inr some ↦ rw some refl

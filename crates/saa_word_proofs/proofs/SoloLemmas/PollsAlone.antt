@@ -7,26 +7,26 @@ use Rattle.saa_core_spec.specs.Object.{Object, After, Entry, Idle, Answered, ent
 use Rattle.saa_core_spec.specs.Polling.{polled_of}
 use Rattle.saa_word_steps.specs.declared.rules.Rules.{Rules}
 use Rattle.saa_word_steps.specs.declared.place.Place.{Place}
-use Rattle.saa_word_steps.specs.declared.place.Taking.{Taking}
-use Rattle.saa_word_steps.specs.declared.place.Taking.TheVariants.{Tries, Awaits}
-use Rattle.saa_word_steps.specs.declared.place.Registration.TheVariants.{Idle as IsIdle, Once}
+use Rattle.saa_word_steps.specs.declared.place.PollMode.{PollMode}
+use Rattle.saa_word_steps.specs.declared.place.PollMode.TheVariants.{Tries, Awaits}
+use Rattle.saa_word_steps.specs.declared.place.Registration.TheVariants.{Idle as IsIdle, AnsweredAtOnce}
 use Rattle.saa_word_steps.specs.declared.call.Answer.{Answer}
 use Rattle.saa_word_steps.specs.declared.call.Answer.TheVariants.{Taken}
 use Rattle.saa_word_steps.specs.declared.call.WordCall.{WordCall}
 use Rattle.saa_word_steps.specs.declared.call.WordCall.TheVariants.{TryPoll, Poll}
 use Rattle.saa_word_steps.specs.Needs.{Needs, needs_of}
-use Rattle.saa_word_steps.specs.declared.event.Event.TheVariants.{Took, NotReady}
+use Rattle.saa_word_steps.specs.declared.event.Event.TheVariants.{AnswerTaken, NotReady}
 use Rattle.saa_word_steps.specs.AbstractState.{AbstractState, IsEnabled, after_event, is_in}
 use Rattle.saa_word_proofs.specs.Refinement.{AreSeats}
 use Rattle.saa_word_proofs.specs.Rows.{updated}
 use Rattle.saa_word_proofs.specs.CallStages.{taken_by}
 use Rattle.saa_word_proofs.specs.Represents.{called, held_at}
-use Rattle.saa_word_proofs.specs.Alone.{Mirrors}
+use Rattle.saa_word_proofs.specs.Alone.{PlacesRepresent}
 use Rattle.saa_word_proofs.proofs.SoloLemmas.Commands.{polled_by, poll-call}
 use Rattle.saa_word_proofs.proofs.SoloLemmas.Mirroring.{Starts, Answers, answers-by, mirrors-same, mirrors-idle, taken-other, idle-entry, once-entry, shown-entry, slot-is, shown-slot, waiting-entry}
 
 -- a poll of an answer
-poll-answered : (rules : Rules) (places me : ℕ) (is_sync : Bool) (call : WordCall) (standing : ℕ → Place) (state now : AbstractState) (s : Object) (taking : Taking) (value : ℕ) (request : Request) (mode slotted : Bool) (place : Place)
+poll-answered : (rules : Rules) (places me : ℕ) (is_sync : Bool) (call : WordCall) (standing : ℕ → Place) (state now : AbstractState) (s : Object) (taking : PollMode) (value : ℕ) (request : Request) (mode slotted : Bool) (place : Place)
     → Starts (needs_of rules) places me standing state s → taken_by call ≡ Some taking → entry_at s.book me ≡ Answered value request mode slotted
     → held_at (needs_of rules) now ≡ held_at (needs_of rules) state → now.line ≡ state.line
     → ((other : ℕ) → (other ≡ me → ⊥) → now.shown other ≡ state.shown other) → place.registration ≡ IsIdle
@@ -39,21 +39,21 @@ poll-answered rules places me is_sync call standing state now s taking value req
     (mirrors-idle needs places standing state now s me place h.mirrors h.here held line shown idle) refl
 
 -- that is shown, or was given at once
-pub poll-took : (rules : Rules) (places me : ℕ) (is_sync : Bool) (call : WordCall) (standing : ℕ → Place) (state : AbstractState) (s : Object) (taking : Taking) (value : ℕ) (place : Place)
+pub poll-took : (rules : Rules) (places me : ℕ) (is_sync : Bool) (call : WordCall) (standing : ℕ → Place) (state : AbstractState) (s : Object) (taking : PollMode) (value : ℕ) (place : Place)
     → Starts (needs_of rules) places me standing state s → taken_by call ≡ Some taking
-    → IsEnabled (needs_of rules) state me (Took value) → place.registration ≡ IsIdle
+    → IsEnabled (needs_of rules) state me (AnswerTaken value) → place.registration ≡ IsIdle
     → Answers (needs_of rules) places me is_sync call (updated standing me place) s
-    (after_event (needs_of rules) state me (Took value)) (Taken (Ok (value == 0)))
+    (after_event (needs_of rules) state me (AnswerTaken value)) (Taken (Ok (value == 0)))
 poll-took rules places me is_sync call standing state s taking value place h takes shown idle =
     let needs : Needs = needs_of rules in
     let slot = slot-is (standing me).registration (shown-slot places me standing state value h.seats shown) in
     let entry = shown-entry needs places me standing state s value slot.0 h.mirrors h.here slot.1 shown in
-    poll-answered rules places me is_sync call standing state (after_event needs state me (Took value)) s taking value (needs.read slot.0) entry.0 true place
+    poll-answered rules places me is_sync call standing state (after_event needs state me (AnswerTaken value)) s taking value (needs.read slot.0) entry.0 true place
     h takes entry.1 refl refl (λ other apart. taken-other me None state.shown other apart) idle
 
-pub poll-once : (rules : Rules) (places me : ℕ) (is_sync : Bool) (call : WordCall) (standing : ℕ → Place) (state : AbstractState) (s : Object) (taking : Taking) (value request : ℕ) (place : Place)
+pub poll-once : (rules : Rules) (places me : ℕ) (is_sync : Bool) (call : WordCall) (standing : ℕ → Place) (state : AbstractState) (s : Object) (taking : PollMode) (value request : ℕ) (place : Place)
     → Starts (needs_of rules) places me standing state s → taken_by call ≡ Some taking
-    → (standing me).registration ≡ Once value request → place.registration ≡ IsIdle
+    → (standing me).registration ≡ AnsweredAtOnce value request → place.registration ≡ IsIdle
     → Answers (needs_of rules) places me is_sync call (updated standing me place) s state (Taken (Ok (value == 0)))
 poll-once rules places me is_sync call standing state s taking value request place h takes once idle =
     let needs : Needs = needs_of rules in
@@ -81,7 +81,7 @@ poll-not_ready rules places me is_sync standing state s place h allowed same =
     first false is = is
 
 -- a poll of a place that is idle
-pub poll-idle : (rules : Rules) (places me : ℕ) (is_sync : Bool) (call : WordCall) (standing : ℕ → Place) (state : AbstractState) (s : Object) (taking : Taking) (place : Place)
+pub poll-idle : (rules : Rules) (places me : ℕ) (is_sync : Bool) (call : WordCall) (standing : ℕ → Place) (state : AbstractState) (s : Object) (taking : PollMode) (place : Place)
     → Starts (needs_of rules) places me standing state s → taken_by call ≡ Some taking
     → (standing me).registration ≡ IsIdle → place.registration ≡ (standing me).registration
     → Answers (needs_of rules) places me is_sync call (updated standing me place) s state (Taken (Err NotRegistered))
@@ -94,7 +94,7 @@ poll-idle rules places me is_sync call standing state s taking place h takes idl
     (mirrors-same needs places standing state s me place h.mirrors same) refl
 
 -- the sequential object answers a waiter that it isn't ready
-pub unready : (needs : Needs) (places me : ℕ) (is_sync : Bool) (standing : ℕ → Place) (state : AbstractState) (s : Object) → Mirrors needs places standing state s
+pub unready : (needs : Needs) (places me : ℕ) (is_sync : Bool) (standing : ℕ → Place) (state : AbstractState) (s : Object) → PlacesRepresent needs places standing state s
     → AreSeats places standing state → me < places → is_in me state.line ≡ true
     → ((called needs.is_lock me is_sync Poll s).reply ≡ Taken (Err IsNotReady)) × ((called needs.is_lock me is_sync Poll s).state ≡ s)
 unready needs places me is_sync standing state s m seats here there =

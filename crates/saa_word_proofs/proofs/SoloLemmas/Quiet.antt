@@ -5,22 +5,22 @@ use Rattle.std.proofs.lemmas.Bool.Decides.{nat_tests}
 use Rattle.saa_core_spec.specs.Object.{one_if, times}
 use Rattle.saa_core_spec.proofs.Counts.{number_same}
 use Rattle.saa_word_steps.specs.declared.place.Place.{Place}
-use Rattle.saa_word_steps.specs.declared.place.Afterwards.TheVariants.{Ends, Again}
+use Rattle.saa_word_steps.specs.declared.place.AfterShow.TheVariants.{Ends, Again}
 use Rattle.saa_word_steps.specs.declared.place.Stage.{Stage}
-use Rattle.saa_word_steps.specs.declared.place.Stage.TheVariants.{BackLoad, BackStore, Forward, CutToClose, CutToGoRound, Close, Empty, GoRound, ShowLoad, ShowStore, LookLoad, LookStore, Unlink, DropTail}
+use Rattle.saa_word_steps.specs.declared.place.Stage.TheVariants.{BackLoad, BackStore, Forward, CutToClose, CutForRetry, Close, Empty, Retry, ShowLoad, ShowStore, LookLoad, LookStore, Unlink, DropTail}
 use Rattle.saa_word_steps.specs.Needs.{Needs}
 use Rattle.saa_word_steps.specs.AbstractState.{AbstractState, is_empty, is_in}
 use Rattle.saa_core_words.specs.declared.line_word.LineWord.{LineWord}
 use Rattle.saa_core_words.specs.declared.word.Word.{Word}
-use Rattle.saa_word_proofs.specs.Refinement.{is_holder, IsHolding, IsShowing, Refines, Work}
+use Rattle.saa_word_proofs.specs.Refinement.{is_holder, IsHolding, IsShowing, Invariant, Work}
 use Rattle.saa_word_proofs.specs.Registering.{is_slot}
 use Rattle.saa_word_proofs.specs.Rows.{IsBehind, line_of}
-use Rattle.saa_word_proofs.specs.Alone.{IsQuiet}
-use Rattle.saa_word_proofs.specs.Promises.{IsAtRest}
+use Rattle.saa_word_proofs.specs.Alone.{PlacesAreQuiescent}
+use Rattle.saa_word_proofs.specs.Promises.{WordsAreQuiescent}
 
 -- nobody holds the flag
-pub quiet-holder : (needs : Needs) (places : ℕ) (row : ℕ → ℕ) (standing : ℕ → Place) (state : AbstractState) (s : Refines needs places row standing state)
-    → IsQuiet standing → s.holder == 0 ≡ true
+pub quiet-holder : (needs : Needs) (places : ℕ) (row : ℕ → ℕ) (standing : ℕ → Place) (state : AbstractState) (s : Invariant needs places row standing state)
+    → PlacesAreQuiescent standing → s.holder == 0 ≡ true
 quiet-holder needs places row standing state s quiet =
     elim (cases_Bool (s.holder == 0)) [
       | inl nobody ↦ nobody
@@ -36,8 +36,8 @@ none-due : (due : Option ℕ) → is_some due ≡ false → due ≡ None
 none-due None none = refl
 none-due (Some value) none = absurd (cc)
 
-quiet-due : (needs : Needs) (places : ℕ) (row : ℕ → ℕ) (standing : ℕ → Place) (state : AbstractState) (s : Refines needs places row standing state)
-    → IsQuiet standing → (place : ℕ) → state.due place ≡ None
+quiet-due : (needs : Needs) (places : ℕ) (row : ℕ → ℕ) (standing : ℕ → Place) (state : AbstractState) (s : Invariant needs places row standing state)
+    → PlacesAreQuiescent standing → (place : ℕ) → state.due place ≡ None
 quiet-due needs places row standing state s quiet place =
     elim (cases_Bool (is_some (state.due place))) [
       | inl due ↦
@@ -49,8 +49,8 @@ quiet-due needs places row standing state s quiet place =
     ]
 
 -- where nobody holds the flag and no answer is due
-free-rest : (needs : Needs) (places : ℕ) (row : ℕ → ℕ) (standing : ℕ → Place) (state : AbstractState) (s : Refines needs places row standing state)
-    → s.holder == 0 ≡ true → ((place : ℕ) → state.due place ≡ None) → IsAtRest needs row state
+free-rest : (needs : Needs) (places : ℕ) (row : ℕ → ℕ) (standing : ℕ → Place) (state : AbstractState) (s : Invariant needs places row standing state)
+    → s.holder == 0 ≡ true → ((place : ℕ) → state.due place ≡ None) → WordsAreQuiescent needs row state
 free-rest needs places row standing state s free paid =
     let closed : state.unclosed ≡ false = s.main.closed free in
     let whole : s.uncut ≡ state.line = ap (λ (l : List (ℕ × ℕ)). l ++ s.uncut) (sym (s.free free)) ∙ sym s.line.parts in
@@ -63,7 +63,7 @@ free-rest needs places row standing state s free paid =
     }
 
 pub at-rest : (needs : Needs) (places : ℕ) (row : ℕ → ℕ) (standing : ℕ → Place) (state : AbstractState)
-    → Refines needs places row standing state → IsQuiet standing → IsAtRest needs row state
+    → Invariant needs places row standing state → PlacesAreQuiescent standing → WordsAreQuiescent needs row state
 at-rest needs places row standing state s quiet =
     free-rest needs places row standing state s (quiet-holder needs places row standing state s quiet) (quiet-due needs places row standing state s quiet)
 
@@ -98,10 +98,10 @@ holding-some needs words me held line cut (BackLoad seen current newer) none h =
 holding-some needs words me held line cut (BackStore seen current newer word) none h = not-both _ (no-front held line seen h.0 none) h.2.1
 holding-some needs words me held line cut (Forward seen current count) none h = not-both _ (no-behind held line seen h.0 none) h.3.1
 holding-some needs words me held line cut (CutToClose seen current count word) none h = not-both _ (no-behind held line seen h.0 none) h.3.1
-holding-some needs words me held line cut (CutToGoRound seen current count word) none h = not-both _ (no-behind held line seen h.0 none) h.3.1
+holding-some needs words me held line cut (CutForRetry seen current count word) none h = not-both _ (no-behind held line seen h.0 none) h.3.1
 holding-some needs words me held line cut (Close seen count top) none h = not-both _ (no-behind held line seen h.0 none) h.4
 holding-some needs words me held line cut (Empty seen current count word) none h = not-both _ (no-behind held line seen h.0 none) h.3.1
-holding-some needs words me held line cut (GoRound seen count top) none h = not-both _ (no-behind held line seen h.0 none) h.4
+holding-some needs words me held line cut (Retry seen count top) none h = not-both _ (no-behind held line seen h.0 none) h.4
 holding-some needs words me held line cut (ShowLoad current value (Again seen)) none h = not-both _ (no-behind held line seen h.0 none) h.3
 holding-some needs words me held line cut (ShowStore current next value (Again seen)) none h = not-both _ (no-behind held line seen h.0 none) h.3
 holding-some needs words me held line cut (ShowLoad current value Ends) none h = h
@@ -127,7 +127,7 @@ none-answered (Some value) none = absurd (omega (arith, none))
 
 -- Where no place is registered in the line nobody waits and no answer is due; so nobody holds the flag, whatever calls are underway
 pub rest-unregistered : (needs : Needs) (places : ℕ) (row : ℕ → ℕ) (standing : ℕ → Place) (state : AbstractState)
-    → Refines needs places row standing state → ((place : ℕ) → is_slot (standing place).registration ≡ false) → IsAtRest needs row state
+    → Invariant needs places row standing state → ((place : ℕ) → is_slot (standing place).registration ≡ false) → WordsAreQuiescent needs row state
 rest-unregistered needs places row standing state s out =
     let nothing : (place : ℕ) → times place state.line + one_if (is_some (state.due place)) + one_if (is_some (state.shown place)) ≡ 0 = λ place.
     s.seats.held place ∙ ap one_if (out place) in

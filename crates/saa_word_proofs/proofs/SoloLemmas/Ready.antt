@@ -7,10 +7,10 @@ use Rattle.saa_word_steps.specs.declared.call.WordCall.TheVariants.{Try, Registe
 use Rattle.saa_word_steps.specs.declared.place.Place.{Place}
 use Rattle.saa_word_steps.specs.declared.place.Next.TheVariants.{Done}
 use Rattle.saa_word_steps.specs.declared.place.Registration.{Registration}
-use Rattle.saa_word_steps.specs.declared.place.Registration.TheVariants.{Idle, Once, Slot}
-use Rattle.saa_word_steps.specs.declared.place.Stage.TheVariants.{AskLoad}
-use Rattle.saa_word_steps.specs.declared.place.Taking.{Taking}
-use Rattle.saa_word_steps.specs.declared.place.Taking.TheVariants.{Tries, Awaits}
+use Rattle.saa_word_steps.specs.declared.place.Registration.TheVariants.{Idle, AnsweredAtOnce, Queued}
+use Rattle.saa_word_steps.specs.declared.place.Stage.TheVariants.{AcquireLoad}
+use Rattle.saa_word_steps.specs.declared.place.PollMode.{PollMode}
+use Rattle.saa_word_steps.specs.declared.place.PollMode.TheVariants.{Tries, Awaits}
 use Rattle.saa_word_steps.specs.Needs.{Needs}
 use Rattle.saa_word_steps.specs.Steps.{cancelled_as, going, polled_as, started}
 use Rattle.saa_word_steps.specs.Readings.{is_idle, mode_number}
@@ -20,26 +20,26 @@ use Rattle.saa_word_proofs.specs.Registering.{is_slot}
 
 registering-ready : (needs : Needs) (places me : ℕ) (place : Place) (request : ℕ) (registration : Registration)
     → IsReadyNext needs places me
-    (if is_idle registration then going place (AskLoad (record { request = request; joins = true })) else Done place (Says false))
+    (if is_idle registration then going place (AcquireLoad (record { request = request; joins = true })) else Done place (Says false))
 registering-ready needs places me place request Idle = (tt, omega arith)
-registering-ready needs places me place request (Once value asked) = tt
-registering-ready needs places me place request (Slot asked) = tt
+registering-ready needs places me place request (AnsweredAtOnce value asked) = tt
+registering-ready needs places me place request (Queued asked) = tt
 
-polling-ready : (needs : Needs) (places me : ℕ) (place : Place) (taking : Taking) (registration : Registration) → (is_slot registration ≡ true → me < places)
+polling-ready : (needs : Needs) (places me : ℕ) (place : Place) (taking : PollMode) (registration : Registration) → (is_slot registration ≡ true → me < places)
     → IsReadyNext needs places me (polled_as place taking registration)
 polling-ready needs places me place taking Idle here = tt
-polling-ready needs places me place taking (Once value asked) here = tt
-polling-ready needs places me place taking (Slot asked) here = (tt, omega (arith, here refl))
+polling-ready needs places me place taking (AnsweredAtOnce value asked) here = tt
+polling-ready needs places me place taking (Queued asked) here = (tt, omega (arith, here refl))
 
 cancelling-ready : (needs : Needs) (places me : ℕ) (place : Place) (registration : Registration)
     → IsReadyNext needs places me (cancelled_as needs place registration)
 cancelling-ready needs places me place Idle = tt
-cancelling-ready needs places me place (Once value request) =
+cancelling-ready needs places me place (AnsweredAtOnce value request) =
     elim (cases_Bool (is_taken_up needs request value)) [
       | inl up ↦ rw up (tt, omega arith)
       | inr free ↦ rw free tt
     ]
-cancelling-ready needs places me place (Slot request) = (tt, omega arith)
+cancelling-ready needs places me place (Queued request) = (tt, omega arith)
 
 -- A call that starts
 pub started-ready-anyone : (needs : Needs) (places me : ℕ) (place : Place) (call : WordCall) → (is_slot place.registration ≡ true → me < places)

@@ -7,10 +7,10 @@ use Rattle.saa_word_steps.specs.declared.call.WordCall.TheVariants.{Try, Registe
 use Rattle.saa_word_steps.specs.declared.place.Place.{Place}
 use Rattle.saa_word_steps.specs.declared.place.Next.TheVariants.{Done}
 use Rattle.saa_word_steps.specs.declared.place.Registration.{Registration}
-use Rattle.saa_word_steps.specs.declared.place.Registration.TheVariants.{Idle, Once, Slot}
-use Rattle.saa_word_steps.specs.declared.place.Stage.TheVariants.{Quiet, AskLoad}
-use Rattle.saa_word_steps.specs.declared.place.Taking.{Taking}
-use Rattle.saa_word_steps.specs.declared.place.Taking.TheVariants.{Tries, Awaits}
+use Rattle.saa_word_steps.specs.declared.place.Registration.TheVariants.{Idle, AnsweredAtOnce, Queued}
+use Rattle.saa_word_steps.specs.declared.place.Stage.TheVariants.{Quiet, AcquireLoad}
+use Rattle.saa_word_steps.specs.declared.place.PollMode.{PollMode}
+use Rattle.saa_word_steps.specs.declared.place.PollMode.TheVariants.{Tries, Awaits}
 use Rattle.saa_word_steps.specs.Needs.{Needs}
 use Rattle.saa_word_steps.specs.Steps.{cancelled_as, going, polled_as, started}
 use Rattle.saa_word_steps.specs.Readings.{is_idle, mode_number}
@@ -20,32 +20,32 @@ use Rattle.saa_word_proofs.specs.CallStages.{IsStartedAs}
 
 registering : (place : Place) (request : ℕ) (registration : Registration) → place.registration ≡ registration → place.stage ≡ Quiet
     → IsStartedAs (registering_answer registration) place.registration
-    (if is_idle registration then going place (AskLoad (record { request = request; joins = true })) else Done place (Says false))
+    (if is_idle registration then going place (AcquireLoad (record { request = request; joins = true })) else Done place (Says false))
 registering place request Idle is quiet = refl
-registering place request (Once value asked) is quiet = (refl, refl, quiet)
-registering place request (Slot asked) is quiet = (refl, refl, quiet)
+registering place request (AnsweredAtOnce value asked) is quiet = (refl, refl, quiet)
+registering place request (Queued asked) is quiet = (refl, refl, quiet)
 
-polling : (place : Place) (taking : Taking) (registration : Registration) → place.registration ≡ registration → place.stage ≡ Quiet
+polling : (place : Place) (taking : PollMode) (registration : Registration) → place.registration ≡ registration → place.stage ≡ Quiet
     → IsStartedAs (polling_answer registration) (registration_after_start Poll registration) (polled_as place taking registration)
 polling place taking Idle is quiet = (refl, is, quiet)
-polling place taking (Once value asked) is quiet = (refl, refl, quiet)
-polling place taking (Slot asked) is quiet = is
+polling place taking (AnsweredAtOnce value asked) is quiet = (refl, refl, quiet)
+polling place taking (Queued asked) is quiet = is
 
-trying : (place : Place) (taking : Taking) (registration : Registration) → place.registration ≡ registration → place.stage ≡ Quiet
+trying : (place : Place) (taking : PollMode) (registration : Registration) → place.registration ≡ registration → place.stage ≡ Quiet
     → IsStartedAs (polling_answer registration) (registration_after_start TryPoll registration) (polled_as place taking registration)
 trying place taking Idle is quiet = (refl, is, quiet)
-trying place taking (Once value asked) is quiet = (refl, refl, quiet)
-trying place taking (Slot asked) is quiet = is
+trying place taking (AnsweredAtOnce value asked) is quiet = (refl, refl, quiet)
+trying place taking (Queued asked) is quiet = is
 
 cancelling : (needs : Needs) (place : Place) (registration : Registration) → place.registration ≡ registration → place.stage ≡ Quiet
     → IsStartedAs (cancelling_answer needs registration) (registration_after_start Cancel registration) (cancelled_as needs place registration)
 cancelling needs place Idle is quiet = (refl, is, quiet)
-cancelling needs place (Once value request) is quiet =
+cancelling needs place (AnsweredAtOnce value request) is quiet =
     elim (cases_Bool (is_taken_up needs request value)) [
       | inl up ↦ rw up refl
       | inr free ↦ rw free (refl, refl, refl)
     ]
-cancelling needs place (Slot request) is quiet = is
+cancelling needs place (Queued request) is quiet = is
 
 -- A call that starts answers by what its place is registered as
 pub started-as : (needs : Needs) (place : Place) (call : WordCall) → place.stage ≡ Quiet

@@ -7,7 +7,7 @@ use Rattle.saa_word_steps.specs.declared.place.Registration.{Registration}
 use Rattle.saa_word_steps.specs.Needs.{Needs}
 use Rattle.saa_word_steps.specs.AbstractState.{AbstractState}
 use Rattle.saa_word_proofs.specs.Rows.{line_of, main_of}
-use Rattle.saa_word_proofs.specs.Promises.{AreAsking, IsMet, Observes, newest_first}
+use Rattle.saa_word_proofs.specs.Promises.{AreAsking, IsChain, WordsShow, newest_first}
 use Rattle.saa_word_proofs.specs.Represents.{Represents, entry_of, held_at, waiters}
 
 -- two answers of one number are one
@@ -18,14 +18,14 @@ same-answer (Some value) None same = absurd (omega (arith, same))
 same-answer (Some value) (Some other) same = (let is : value ≡ other = omega (arith, same) in ap (λ (n : ℕ). let answer : Option ℕ = Some n in answer) is)
 
 -- two lists of places that are met from one link are one
-pub same-met : (words : ℕ → LineWord) (link : ℕ) (one other : List ℕ) → IsMet words link one → IsMet words link other → one ≡ other
+pub same-met : (words : ℕ → LineWord) (link : ℕ) (one other : List ℕ) → IsChain words link one → IsChain words link other → one ≡ other
 same-met words link [] [] met also = refl
 same-met words link [] (place ∷ rest) met also = absurd (omega (arith, met, also.0))
 same-met words link (place ∷ rest) [] met also = absurd (omega (arith, met.0, also))
 same-met words link (place ∷ rest) (other ∷ others) met also =
     let is : place ≡ other = omega (arith, met.0, also.0) in
     let tails : rest ≡ others =
-    same-met words (words place).older rest others met.1 (subst (λ (n : ℕ). IsMet words (words n).older others) (sym is) also.1) in
+    same-met words (words place).older rest others met.1 (subst (λ (n : ℕ). IsChain words (words n).older others) (sym is) also.1) in
     λ i. is i ∷ tails i
 
 -- so are two lists that end with one place each
@@ -68,7 +68,7 @@ same-line words (asker ∷ rest) (other ∷ others) same asks also =
 
 -- An object that represents one abstract state represents another that the same words show, while the flag is clear
 pub represents-same : (needs : Needs) (places : ℕ) (row : ℕ → ℕ) (registered : ℕ → Registration) (one other : AbstractState) (s : Object)
-    → (main_of row).is_flagged ≡ false → Observes needs places row one → Observes needs places row other
+    → (main_of row).is_flagged ≡ false → WordsShow needs places row one → WordsShow needs places row other
     → Represents needs places registered one s → Represents needs places registered other s
 represents-same needs places row registered one other s clear shows also was =
     let line : one.line ≡ other.line =

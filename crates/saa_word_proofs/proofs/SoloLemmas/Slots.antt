@@ -7,10 +7,10 @@ use Rattle.saa_core_spec.proofs.Counts.{number_same}
 use Rattle.saa_word_steps.specs.declared.call.WordCall.{WordCall}
 use Rattle.saa_word_steps.specs.declared.call.WordCall.TheVariants.{TryPoll, Poll, Cancel}
 use Rattle.saa_word_steps.specs.declared.event.Event.{Event}
-use Rattle.saa_word_steps.specs.declared.event.Event.TheVariants.{Got, Refused, Joined, Gave, GaveNothing, Lowered, NotLowered, AskedPoisoned, Left, Closed, Poisoned, NotPoisoned, Cleared, NotCleared, NotReady, Granted, Showed, Took, Read}
+use Rattle.saa_word_steps.specs.declared.event.Event.TheVariants.{Acquired, Refused, Joined, Released, ReleasedNothing, Lowered, NotLowered, AskedPoisoned, Cancelled, Closed, Poisoned, NotPoisoned, Cleared, NotCleared, NotReady, Granted, Showed, AnswerTaken, Read}
 use Rattle.saa_word_steps.specs.declared.place.Ask.{Ask}
 use Rattle.saa_word_steps.specs.declared.place.Registration.{Registration}
-use Rattle.saa_word_steps.specs.declared.place.Registration.TheVariants.{Idle, Once, Slot}
+use Rattle.saa_word_steps.specs.declared.place.Registration.TheVariants.{Idle, AnsweredAtOnce, Queued}
 use Rattle.saa_word_steps.specs.Needs.{Needs}
 use Rattle.saa_word_steps.specs.AbstractState.{AbstractState, IsEnabled, after_event, IsRun, is_in, held_by}
 use Rattle.saa_word_steps.proofs.AbstractRuns.{run-once, waits-some}
@@ -57,7 +57,7 @@ drop-registered registered zero line are = are
 drop-registered registered (suc askers) [] are = tt
 drop-registered registered (suc askers) (asker ∷ rest) are = drop-registered registered askers rest are.1
 
-push-registered : (registered : ℕ → Registration) (place request : ℕ) (line : List (ℕ × ℕ)) → AreRegistered registered line → registered place ≡ Slot request
+push-registered : (registered : ℕ → Registration) (place request : ℕ) (line : List (ℕ × ℕ)) → AreRegistered registered line → registered place ≡ Queued request
     → AreRegistered registered (line ++ (place, request) ∷ [])
 push-registered registered place request [] are last = (last, tt)
 push-registered registered place request (asker ∷ rest) are last = (are.0, push-registered registered place request rest are.1 last)
@@ -75,15 +75,15 @@ not-in state me most held shown =
 -- a poisoned lock has nobody in line
 barren-step : (needs : Needs) (state : AbstractState) (place : ℕ) (event : Event) → IsEnabled needs state place event → (state.poisoned ≡ true → state.line ≡ [])
     → (after_event needs state place event).poisoned ≡ true → (after_event needs state place event).line ≡ []
-barren-step needs state place (Got request) allowed was poisoned = was poisoned
+barren-step needs state place (Acquired request) allowed was poisoned = was poisoned
 barren-step needs state place (Refused request) allowed was poisoned = was poisoned
 barren-step needs state place (Joined request) allowed was poisoned = (let wrong : true ≡ false = sym poisoned ∙ allowed.0 in absurd (cc))
-barren-step needs state place (Gave request) allowed was poisoned = was poisoned
-barren-step needs state place (GaveNothing request) allowed was poisoned = was poisoned
+barren-step needs state place (Released request) allowed was poisoned = was poisoned
+barren-step needs state place (ReleasedNothing request) allowed was poisoned = was poisoned
 barren-step needs state place Lowered allowed was poisoned = was poisoned
 barren-step needs state place NotLowered allowed was poisoned = was poisoned
 barren-step needs state place AskedPoisoned allowed was poisoned = was poisoned
-barren-step needs state place Left allowed was poisoned = ap (without place) (was poisoned)
+barren-step needs state place Cancelled allowed was poisoned = ap (without place) (was poisoned)
 barren-step needs state place (Granted askers) allowed was poisoned =
     let nobody : length state.line ≡ 0 = ap length (was poisoned) in absurd (omega (arith, allowed.1, allowed.2, nobody))
 barren-step needs state place Closed allowed was poisoned = was poisoned
@@ -93,7 +93,7 @@ barren-step needs state place Cleared allowed was poisoned = absurd (cc)
 barren-step needs state place NotCleared allowed was poisoned = was poisoned
 barren-step needs state place NotReady allowed was poisoned = was poisoned
 barren-step needs state place (Showed shown_place) allowed was poisoned = was poisoned
-barren-step needs state place (Took value) allowed was poisoned = was poisoned
+barren-step needs state place (AnswerTaken value) allowed was poisoned = was poisoned
 barren-step needs state place (Read count poisoned_now) allowed was poisoned = was poisoned
 
 -- what a place is registered as behind an event, where an answer names that
@@ -103,19 +103,19 @@ left_by_named event asks was = if is_named event then registration_after_event e
 event-registered : (needs : Needs) (state : AbstractState) (me : ℕ) (event : Event) (asks : Option Ask) (registered : ℕ → Registration) (was : Registration)
     → IsEnabled needs state me event → held_by me state ≤ 1 → (state.poisoned ≡ true → state.line ≡ []) → AreRegistered (updated registered me was) state.line
     → AreRegistered (updated registered me (left_by_named event asks was)) (after_event needs state me event).line
-event-registered needs state me (Got request) asks registered was allowed once barren are =
-    subst (λ (l : List (ℕ × ℕ)). AreRegistered (updated registered me (registration_after_event (Got request) asks was)) l) (sym allowed.1) tt
+event-registered needs state me (Acquired request) asks registered was allowed once barren are =
+    subst (λ (l : List (ℕ × ℕ)). AreRegistered (updated registered me (registration_after_event (Acquired request) asks was)) l) (sym allowed.1) tt
 event-registered needs state me (Refused request) asks registered was allowed once barren are = are
 event-registered needs state me (Joined request) asks registered was allowed once barren are =
-    push-registered (updated registered me (Slot request)) me request state.line (others-registered registered me was (Slot request) state.line allowed.2 are)
+    push-registered (updated registered me (Queued request)) me request state.line (others-registered registered me was (Queued request) state.line allowed.2 are)
     (rw (number_same me) refl)
-event-registered needs state me (Gave request) asks registered was allowed once barren are = are
-event-registered needs state me (GaveNothing request) asks registered was allowed once barren are = are
+event-registered needs state me (Released request) asks registered was allowed once barren are = are
+event-registered needs state me (ReleasedNothing request) asks registered was allowed once barren are = are
 event-registered needs state me Lowered asks registered was allowed once barren are = are
 event-registered needs state me NotLowered asks registered was allowed once barren are = are
 event-registered needs state me AskedPoisoned asks registered was allowed once barren are =
     subst (λ (l : List (ℕ × ℕ)). AreRegistered (updated registered me (registration_after_event AskedPoisoned asks was)) l) (sym (barren allowed)) tt
-event-registered needs state me Left asks registered was allowed once barren are =
+event-registered needs state me Cancelled asks registered was allowed once barren are =
     others-registered registered me was Idle (without me state.line) (without-out me state.line)
     (without-registered (updated registered me was) me state.line are)
 event-registered needs state me (Granted askers) asks registered was allowed once barren are = drop-registered (updated registered me was) askers state.line are
@@ -126,7 +126,7 @@ event-registered needs state me Cleared asks registered was allowed once barren 
 event-registered needs state me NotCleared asks registered was allowed once barren are = are
 event-registered needs state me NotReady asks registered was allowed once barren are = are
 event-registered needs state me (Showed shown_place) asks registered was allowed once barren are = are
-event-registered needs state me (Took value) asks registered was allowed once barren are =
+event-registered needs state me (AnswerTaken value) asks registered was allowed once barren are =
     others-registered registered me was Idle state.line (not-in state me 1 once (ap (λ (a : Option ℕ). one_if (is_some a)) allowed)) are
 event-registered needs state me (Read count poisoned) asks registered was allowed once barren are = are
 
@@ -151,11 +151,11 @@ run-registered needs state last me (event ∷ events) asks registered was run on
 -- a call that starts leaves each place that is registered in the line as it is
 begun-slot : (call : WordCall) (registration : Registration) → is_slot registration ≡ true → registration_after_start call registration ≡ registration
 begun-slot call Idle slot = absurd (cc)
-begun-slot call (Once value request) slot = absurd (cc)
-begun-slot TryPoll (Slot request) slot = refl
-begun-slot Poll (Slot request) slot = refl
-begun-slot Cancel (Slot request) slot = refl
-begun-slot call (Slot request) slot = refl
+begun-slot call (AnsweredAtOnce value request) slot = absurd (cc)
+begun-slot TryPoll (Queued request) slot = refl
+begun-slot Poll (Queued request) slot = refl
+begun-slot Cancel (Queued request) slot = refl
+begun-slot call (Queued request) slot = refl
 
 pub begun-registered-line : (state : AbstractState) (registered : ℕ → Registration) (me : ℕ) (call : WordCall) → held_by me state ≡ one_if (is_slot (registered me))
     → AreRegistered registered state.line → AreRegistered (updated registered me (registration_after_start call (registered me))) state.line

@@ -7,10 +7,10 @@ use Rattle.saa_core_spec.proofs.Counts.{number_same, same_number}
 use Rattle.saa_core_words.specs.Words.{count_bits, answer_number, answer_of}
 use Rattle.saa_word_steps.specs.declared.place.Place.{Place}
 use Rattle.saa_word_steps.specs.declared.place.Registration.{Registration}
-use Rattle.saa_word_steps.specs.declared.place.Registration.TheVariants.{Idle, Once, Slot}
+use Rattle.saa_word_steps.specs.declared.place.Registration.TheVariants.{Idle, AnsweredAtOnce, Queued}
 use Rattle.saa_word_steps.specs.declared.place.Stage.{Stage}
 use Rattle.saa_word_steps.specs.declared.place.Stage.TheVariants.{Quiet, Take, FlagLoad, FlagExchange, PoisonLoad, PoisonExchange}
-use Rattle.saa_word_steps.specs.declared.place.Taking.TheVariants.{Awaits, Gives}
+use Rattle.saa_word_steps.specs.declared.place.PollMode.TheVariants.{Awaits, Gives}
 use Rattle.saa_word_steps.specs.declared.place.Next.{Next}
 use Rattle.saa_word_steps.specs.declared.place.Next.TheVariants.{Going, Waits, Done}
 use Rattle.saa_word_steps.specs.declared.call.WordCall.{WordCall}
@@ -20,7 +20,7 @@ use Rattle.saa_word_steps.specs.declared.event.Event.{Event}
 use Rattle.saa_word_steps.specs.AbstractState.{AbstractState, is_in}
 use Rattle.saa_word_steps.specs.Steps.{word_at, operation_of, next_of, going, polled_as, started, taken_answer}
 use Rattle.saa_word_steps.specs.Readings.{is_taken}
-use Rattle.saa_word_proofs.specs.Refinement.{is_holder, IsShowing, AreSeats, Refines}
+use Rattle.saa_word_proofs.specs.Refinement.{is_holder, IsShowing, AreSeats, Invariant}
 use Rattle.saa_word_proofs.specs.Rows.{main_of, updated}
 use Rattle.saa_word_proofs.specs.Registering.{is_slot}
 use Rattle.saa_word_proofs.specs.StepRefinement.{named_at, place_after, row_after}
@@ -30,15 +30,15 @@ use Rattle.saa_word_proofs.proofs.RefinementLemmas.Steps.{step}
 use Rattle.saa_word_proofs.proofs.RefinementLemmas.Calls.{under-next}
 use Rattle.saa_word_proofs.proofs.RefinementLemmas.Starting.{starts, call-begun}
 use Rattle.saa_word_proofs.proofs.RefinementLemmas.Polls.{only-stalls}
-use Rattle.saa_word_proofs.proofs.RefinementLemmas.Taking.{answer-again}
-use Rattle.saa_word_proofs.specs.Alone.{Moment, put, next_at, stepped, IsEither, IsQuiet, IsLeftWaiting, WaitsBehind, IsKeptWaiting}
+use Rattle.saa_word_proofs.proofs.RefinementLemmas.PollMode.{answer-again}
+use Rattle.saa_word_proofs.specs.Alone.{Configuration, put, next_at, stepped, IsEither, PlacesAreQuiescent, IsLeftWaiting, WaitsBehind, IsKeptWaiting}
 use Rattle.saa_word_proofs.proofs.SoloLemmas.Quiet.{at-rest}
 use Rattle.saa_word_proofs.proofs.SoloLemmas.Mirroring.{slot-is, waits-slot}
 
 -- A poll that starts
 
 -- how a place that looks for its answer goes on, by what is shown to it
-pub poll-next : (needs : Needs) (places me : ℕ) (now : Moment) (answer : Option ℕ) → now.row (places + me + 1) ≡ answer_number answer
+pub poll-next : (needs : Needs) (places me : ℕ) (now : Configuration) (answer : Option ℕ) → now.row (places + me + 1) ≡ answer_number answer
     → ((value : ℕ) → answer ≡ Some value → value < 256)
     → next_at needs places me (put me (going (now.standing me) (Take Awaits)) now)
     ≡ taken_answer needs (record (now.standing me) { stage = Take Awaits }) Awaits answer
@@ -48,12 +48,12 @@ poll-next needs places me now answer number small =
     ∙ ap (taken_answer needs place Awaits) (ap (λ (n : ℕ). answer_of (n % 65536)) number ∙ answer-again answer small)
 
 -- a place that looks for its answer, where there is none
-waits-there : (needs : Needs) (places me : ℕ) (now : Moment) → now.row (places + me + 1) ≡ 0
-    → let begun : Moment = put me (going (now.standing me) (Take Awaits)) now in
+waits-there : (needs : Needs) (places me : ℕ) (now : Configuration) → now.row (places + me + 1) ≡ 0
+    → let begun : Configuration = put me (going (now.standing me) (Take Awaits)) now in
     (next_at needs places me begun ≡ Waits) × (stepped needs places me begun ≡ begun)
 waits-there needs places me now none =
     let place : Place = record (now.standing me) { stage = Take Awaits } in
-    let begun : Moment = put me (going (now.standing me) (Take Awaits)) now in
+    let begun : Configuration = put me (going (now.standing me) (Take Awaits)) now in
     let here : begun.standing me ≡ place = updated-at now.standing me place in
     let waits : next_at needs places me begun ≡ Waits = poll-next needs places me now None none (λ value is. absurd (cc)) in
     let row : row_after now.row (operation_of needs places me (begun.standing me).stage) ≡ now.row =
@@ -64,7 +64,7 @@ waits-there needs places me now none =
     (waits, λ i. record { row = row i; standing = standing i })
 
 -- A poll of a place that stands in the line
-pub left-waiting : (needs : Needs) (places me : ℕ) (now : Moment) (state : AbstractState) → Refines needs places now.row now.standing state → me < places
+pub left-waiting : (needs : Needs) (places me : ℕ) (now : Configuration) (state : AbstractState) → Invariant needs places now.row now.standing state → me < places
     → is_in me state.line ≡ true → IsLeftWaiting needs places me Poll now
 left-waiting needs places me now state s here there =
     let waits = waits-slot places me now.standing state s.seats there in
@@ -72,7 +72,7 @@ left-waiting needs places me now state s here there =
     let none : now.row (places + me + 1) ≡ 0 = s.answers.words me here ∙ ap answer_number waits.1 in
     subst
     (λ (registration : Registration).
-    let begun : Moment = put me (polled_as (now.standing me) Awaits registration) now in
+    let begun : Configuration = put me (polled_as (now.standing me) Awaits registration) now in
     (next_at needs places me begun ≡ Waits) × (stepped needs places me begun ≡ begun))
     (sym slot.1) (waits-there needs places me now none)
 
@@ -91,7 +91,7 @@ each-but P me mine others place =
     ]
 
 -- nobody holds the flag where this place doesn't
-alone-clear : (needs : Needs) (places : ℕ) (row : ℕ → ℕ) (standing : ℕ → Place) (state : AbstractState) (me : ℕ) → Refines needs places row standing state
+alone-clear : (needs : Needs) (places : ℕ) (row : ℕ → ℕ) (standing : ℕ → Place) (state : AbstractState) (me : ℕ) → Invariant needs places row standing state
     → AreQuietBut me standing → is_holder (standing me).stage ≡ false → (main_of row).is_flagged ≡ false
 alone-clear needs places row standing state me s quiet mine =
     elim (cases_Bool (s.holder == 0)) [
@@ -106,7 +106,7 @@ alone-clear needs places row standing state me s quiet mine =
     ]
 
 -- no answer is due where this place has none to show
-alone-paid : (needs : Needs) (places : ℕ) (row : ℕ → ℕ) (standing : ℕ → Place) (state : AbstractState) (me : ℕ) (s : Refines needs places row standing state)
+alone-paid : (needs : Needs) (places : ℕ) (row : ℕ → ℕ) (standing : ℕ → Place) (state : AbstractState) (me : ℕ) (s : Invariant needs places row standing state)
     → AreQuietBut me standing → s.owed me ≡ [] → (place : ℕ) → is_some (state.due place) ≡ true → ⊥
 alone-paid needs places row standing state me s quiet mine place due =
     let none : s.owed (state.granter place) ≡ [] =
@@ -117,7 +117,7 @@ alone-paid needs places row standing state me s quiet mine place due =
 
 -- it waits for its own answer only
 alone-stalls : (needs : Needs) (places : ℕ) (row : ℕ → ℕ) (standing : ℕ → Place) (state : AbstractState) (me : ℕ) → me < places
-    → Refines needs places row standing state → AreQuietBut me standing → (stage : Stage) → (standing me).stage ≡ stage
+    → Invariant needs places row standing state → AreQuietBut me standing → (stage : Stage) → (standing me).stage ≡ stage
     → next_of needs me (standing me) stage (row (word_at (operation_of needs places me stage))) ≡ Waits → stage ≡ Take Awaits
 alone-stalls needs places row standing state me here s quiet (Take Awaits) at waits = refl
 alone-stalls needs places row standing state me here s quiet (Take (Gives request)) at waits =
@@ -144,21 +144,21 @@ alone-stalls needs places row standing state me here s quiet stage at waits =
     absurd ((only-stalls needs places row standing state me here s stage at waits).0)
 
 -- A place is in the middle of its call, of which it has named some events, and no other place is in one
-pub record Moves (needs : Needs) (places me : ℕ) (call : WordCall) (registered : Registration) (now : Moment) : Type 0 where
+pub record Moves (needs : Needs) (places me : ℕ) (call : WordCall) (registered : Registration) (now : Configuration) : Type 0 where
   pub state : AbstractState
-  pub stands : Refines needs places now.row now.standing state
+  pub stands : Invariant needs places now.row now.standing state
   pub names : List Event
   pub under : IsUnder needs call registered (now.standing me).back (now.standing me).stage names
   pub quiet : AreQuietBut me now.standing
 
 -- so it is once a call has started that isn't done at once
-pub moves-first : (needs : Needs) → needs.top < 2 ^ count_bits → (places me : ℕ) (call : WordCall) (now : Moment) (state : AbstractState)
-    → Refines needs places now.row now.standing state → IsQuiet now.standing → me < places → is_taken needs.is_lock call ≡ true
+pub moves-first : (needs : Needs) → needs.top < 2 ^ count_bits → (places me : ℕ) (call : WordCall) (now : Configuration) (state : AbstractState)
+    → Invariant needs places now.row now.standing state → PlacesAreQuiescent now.standing → me < places → is_taken needs.is_lock call ≡ true
     → (place : Place) → started needs (now.standing me) call ≡ Going place
     → Moves needs places me call (now.standing me).registration (put me (Going place) now)
 moves-first needs wide places me call now state s quiet here taken place is = record {
   state = state;
-  stands = subst (λ (next : Next). Refines needs places now.row (updated now.standing me (place_after (now.standing me) next)) state) is
+  stands = subst (λ (next : Next). Invariant needs places now.row (updated now.standing me (place_after (now.standing me) next)) state) is
       (starts needs wide places now.row now.standing state me call here s (quiet me) taken);
   names = [];
   under = subst (λ (p : Place). IsUnder needs call (now.standing me).registration p.back p.stage []) (sym (updated-at now.standing me place))
@@ -168,7 +168,7 @@ moves-first needs wide places me call now state s quiet here taken place is = re
 
 -- and behind each step with which it isn't done
 pub moves-on : (needs : Needs) → AreNeeds needs → needs.top < 2 ^ count_bits → (places me : ℕ) → places < 65536 → me < places
-    → (call : WordCall) (registered : Registration) (now : Moment) → Moves needs places me call registered now
+    → (call : WordCall) (registered : Registration) (now : Configuration) → Moves needs places me call registered now
     → (place : Place) → next_at needs places me now ≡ Going place → Moves needs places me call registered (stepped needs places me now)
 moves-on needs lawful wide places me room here call registered now m place is =
     let stage : Stage = (now.standing me).stage in
@@ -192,7 +192,7 @@ awaits-poll Poll is = refl
 awaits-poll call is = absurd (cc)
 
 -- if it waits it polls
-pub moves-waits : (needs : Needs) (places me : ℕ) → me < places → (call : WordCall) (registered : Registration) (now : Moment)
+pub moves-waits : (needs : Needs) (places me : ℕ) → me < places → (call : WordCall) (registered : Registration) (now : Configuration)
     → Moves needs places me call registered now → next_at needs places me now ≡ Waits → call ≡ Poll
 moves-waits needs places me here call registered now m waits =
     let at = alone-stalls needs places now.row now.standing m.state me here m.stands m.quiet (now.standing me).stage refl waits in
@@ -208,7 +208,7 @@ is-going (Done place answer) going h = absurd h
 
 -- a call that waits behind some steps is a poll
 waits-poll : (needs : Needs) → AreNeeds needs → needs.top < 2 ^ count_bits → (places me : ℕ) → places < 65536 → me < places
-    → (call : WordCall) (registered : Registration) (steps : ℕ) (now : Moment) → Moves needs places me call registered now
+    → (call : WordCall) (registered : Registration) (steps : ℕ) (now : Configuration) → Moves needs places me call registered now
     → WaitsBehind needs places me steps now → call ≡ Poll
 waits-poll needs lawful wide places me room here call registered zero now m h = moves-waits needs places me here call registered now m h
 waits-poll needs lawful wide places me room here call registered (suc more) now m h =
@@ -217,7 +217,7 @@ waits-poll needs lawful wide places me room here call registered (suc more) now 
     (moves-on needs lawful wide places me room here call registered now m goes.0.0 goes.0.1) goes.1
 
 -- a poll that finds an answer is done
-shown-done : (needs : Needs) (places me : ℕ) (steps : ℕ) (begun : Moment) (place : Place) (value : ℕ)
+shown-done : (needs : Needs) (places me : ℕ) (steps : ℕ) (begun : Configuration) (place : Place) (value : ℕ)
     → next_at needs places me begun ≡ taken_answer needs place Awaits (Some value) → WaitsBehind needs places me steps begun → ⊥
 shown-done needs places me zero begun place value done h =
     let wrong : true ≡ false = ap is_done (sym done ∙ h) in absurd (cc)
@@ -236,14 +236,14 @@ stands-there places me standing state seats slot due shown =
     (omega (arith, seats.held me, ap one_if slot, ap (λ (a : Option ℕ). one_if (is_some a)) due, ap (λ (a : Option ℕ). one_if (is_some a)) shown))
 
 -- a poll that waits is one of a place that stands in the line
-poll-only : (needs : Needs) (places me : ℕ) (steps : ℕ) (now : Moment) (state : AbstractState) → Refines needs places now.row now.standing state → me < places
+poll-only : (needs : Needs) (places me : ℕ) (steps : ℕ) (now : Configuration) (state : AbstractState) → Invariant needs places now.row now.standing state → me < places
     → state.due me ≡ None → (registration : Registration) → (now.standing me).registration ≡ registration
     → IsEither (polled_as (now.standing me) Awaits registration)
     (WaitsBehind needs places me steps (put me (polled_as (now.standing me) Awaits registration) now)) (λ said. ⊥)
     → is_in me state.line ≡ true
 poll-only needs places me steps now state s here due Idle is h = absurd h
-poll-only needs places me steps now state s here due (Once value request) is h = absurd h
-poll-only needs places me steps now state s here due (Slot request) is h = shown-or (state.shown me) refl
+poll-only needs places me steps now state s here due (AnsweredAtOnce value request) is h = absurd h
+poll-only needs places me steps now state s here due (Queued request) is h = shown-or (state.shown me) refl
   where
     shown-or : (shown : Option ℕ) → state.shown me ≡ shown → is_in me state.line ≡ true
     shown-or None none = stands-there places me now.standing state s.seats (ap is_slot is) due none
@@ -252,8 +252,8 @@ poll-only needs places me steps now state s here due (Slot request) is h = shown
         (poll-next needs places me now (Some value) (s.answers.words me here ∙ ap answer_number some) (λ v is. s.answers.small me v (some ∙ is))) h)
 
 -- Only a poll of a place that stands in the line waits
-pub only-polls : (needs : Needs) → AreNeeds needs → (places me : ℕ) (call : WordCall) (steps : ℕ) (now : Moment) (state : AbstractState)
-    → needs.top < 2 ^ count_bits → places < 65536 → Refines needs places now.row now.standing state → IsQuiet now.standing → me < places
+pub only-polls : (needs : Needs) → AreNeeds needs → (places me : ℕ) (call : WordCall) (steps : ℕ) (now : Configuration) (state : AbstractState)
+    → needs.top < 2 ^ count_bits → places < 65536 → Invariant needs places now.row now.standing state → PlacesAreQuiescent now.standing → me < places
     → is_taken needs.is_lock call ≡ true → IsKeptWaiting needs places me call steps now → (call ≡ Poll) × (is_in me state.line ≡ true)
 only-polls needs lawful places me call steps now state wide room s quiet here taken h =
     let start : Next = started needs (now.standing me) call in

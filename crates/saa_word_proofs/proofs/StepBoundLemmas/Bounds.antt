@@ -3,12 +3,12 @@ use Rattle.std.proofs.Common.{◌≡◌, ℕ, suc, zero, ◌+◌, ◌-◌, ◌*�
 use Rattle.std.proofs.lemmas.Bool.{cases_Bool}
 use Rattle.saa_core_words.specs.declared.word.Word.{Word}
 use Rattle.saa_core_words.specs.Words.{count_bits, word_number, word_of, line_word_of}
-use Rattle.saa_word_steps.specs.declared.place.Back.{Back}
-use Rattle.saa_word_steps.specs.declared.place.Taking.TheVariants.{Tries, Awaits, Gives}
-use Rattle.saa_word_steps.specs.declared.place.Afterwards.{Afterwards}
-use Rattle.saa_word_steps.specs.declared.place.Afterwards.TheVariants.{Ends, Again}
+use Rattle.saa_word_steps.specs.declared.place.AfterWalk.{AfterWalk}
+use Rattle.saa_word_steps.specs.declared.place.PollMode.TheVariants.{Tries, Awaits, Gives}
+use Rattle.saa_word_steps.specs.declared.place.AfterShow.{AfterShow}
+use Rattle.saa_word_steps.specs.declared.place.AfterShow.TheVariants.{Ends, Again}
 use Rattle.saa_word_steps.specs.declared.place.Stage.{Stage}
-use Rattle.saa_word_steps.specs.declared.place.Stage.TheVariants.{Quiet, ReadLoad, AskLoad, AskExchange, Prepare, Join, ReleaseLoad, ReleaseExchange, BackLoad, BackStore, Forward, CutToClose, CutToGoRound, Close, Empty, GoRound, ShowLoad, ShowStore, Take, FlagLoad, FlagExchange, LookLoad, LookStore, Unlink, DropTail, PoisonLoad, PoisonExchange, Clear}
+use Rattle.saa_word_steps.specs.declared.place.Stage.TheVariants.{Quiet, ReadLoad, AcquireLoad, AcquireExchange, Prepare, Join, ReleaseLoad, ReleaseExchange, BackLoad, BackStore, Forward, CutToClose, CutForRetry, Close, Empty, Retry, ShowLoad, ShowStore, Take, FlagLoad, FlagExchange, LookLoad, LookStore, Unlink, DropTail, PoisonLoad, PoisonExchange, Clear}
 use Rattle.saa_word_proofs.specs.Refinement.{takes_back}
 use Rattle.saa_word_proofs.specs.StepBound.{is_link, met, way, by_seen, waiting, more_to_walk, more_to_end, left_afterwards, steps_left, step_bound}
 
@@ -33,7 +33,7 @@ by_seen-within number seen same stale low high a b c d =
 -- What is left of a call that takes its own answer afterwards
 
 -- it is the more the more wait
-pub more-within : (back : Back) (few many : ℕ) → few ≤ many → more_to_walk back few ≤ more_to_walk back many
+pub more-within : (back : AfterWalk) (few many : ℕ) → few ≤ many → more_to_walk back few ≤ more_to_walk back many
 more-within back few many within =
     elim (cases_Bool (takes_back back)) [
       | inl takes ↦ rw takes (omega (arith, within))
@@ -41,14 +41,14 @@ more-within back few many within =
     ]
 
 -- it is so much at most
-pub more-most : (back : Back) (wait : ℕ) → more_to_walk back wait ≤ 3 * wait + 5
+pub more-most : (back : AfterWalk) (wait : ℕ) → more_to_walk back wait ≤ 3 * wait + 5
 more-most back wait =
     elim (cases_Bool (takes_back back)) [
       | inl takes ↦ rw takes (omega arith)
       | inr ends ↦ rw ends (omega arith)
     ]
 
-pub end-most : (back : Back) (wait : ℕ) → more_to_end back wait ≤ 5 * wait + 5
+pub end-most : (back : AfterWalk) (wait : ℕ) → more_to_end back wait ≤ 5 * wait + 5
 end-most back wait =
     elim (cases_Bool (takes_back back)) [
       | inl takes ↦ rw takes (omega arith)
@@ -56,7 +56,7 @@ end-most back wait =
     ]
 
 -- a call that is done with the line has two steps more for each waiter than one that has to walk yet
-pub end-within : (back : Back) (few many : ℕ) → few ≤ many → more_to_end back few ≤ 2 * few + more_to_walk back many
+pub end-within : (back : AfterWalk) (few many : ℕ) → few ≤ many → more_to_end back few ≤ 2 * few + more_to_walk back many
 end-within back few many within =
     elim (cases_Bool (takes_back back)) [
       | inl takes ↦ rw takes (omega (arith, within))
@@ -64,16 +64,16 @@ end-within back few many within =
     ]
 
 -- nothing more is left of a call that doesn't take its own answer
-pub more-none : (back : Back) (wait : ℕ) → takes_back back ≡ false → more_to_walk back wait ≡ 0
+pub more-none : (back : AfterWalk) (wait : ℕ) → takes_back back ≡ false → more_to_walk back wait ≡ 0
 more-none back wait ends = rw ends refl
 
-pub end-none : (back : Back) (wait : ℕ) → takes_back back ≡ false → more_to_end back wait ≡ 0
+pub end-none : (back : AfterWalk) (wait : ℕ) → takes_back back ≡ false → more_to_end back wait ≡ 0
 end-none back wait ends = rw ends refl
 
 -- Every step bound
 
 -- what is left behind the last answer
-afterwards-bounded : (ways : ℕ → ℕ) (places number : ℕ) (back : Back) (afterwards : Afterwards) → ((link : ℕ) → ways link ≤ places)
+afterwards-bounded : (ways : ℕ → ℕ) (places number : ℕ) (back : AfterWalk) (afterwards : AfterShow) → ((link : ℕ) → ways link ≤ places)
     → left_afterwards ways number back afterwards ≤ 11 * places + 11
 afterwards-bounded ways places number back Ends most =
     omega (arith, most (word_of count_bits number).tail, end-most back (waiting ways number))
@@ -89,12 +89,12 @@ afterwards-bounded ways places number back (Again seen) most =
     )
 
 -- where no way is longer than there are places, no step bound is more than this
-pub left-bounded : (ways : ℕ → ℕ) (places number : ℕ) (back : Back) (stage : Stage) → ((link : ℕ) → ways link ≤ places)
+pub left-bounded : (ways : ℕ → ℕ) (places number : ℕ) (back : AfterWalk) (stage : Stage) → ((link : ℕ) → ways link ≤ places)
     → steps_left ways number back stage ≤ 16 * places + 13
 left-bounded ways places number back Quiet most = omega arith
 left-bounded ways places number back (ReadLoad reading) most = omega arith
-left-bounded ways places number back (AskLoad ask) most = omega arith
-left-bounded ways places number back (AskExchange ask seen) most =
+left-bounded ways places number back (AcquireLoad ask) most = omega arith
+left-bounded ways places number back (AcquireExchange ask seen) most =
     omega (arith, by_seen-within number seen 1 3 0 3 (omega arith) (omega arith) (omega arith) (omega arith))
 left-bounded ways places number back (Prepare request seen) most =
     omega (arith, by_seen-within number seen 2 4 0 4 (omega arith) (omega arith) (omega arith) (omega arith))
@@ -146,7 +146,7 @@ left-bounded ways places number back (CutToClose seen current count line) most =
       by_seen-within number seen (2 * waiting ways number + 2) (5 * waiting ways number + 5) 0 (5 * places + 5)
           (omega arith) (omega arith) (omega arith) (omega arith),
     )
-left-bounded ways places number back (CutToGoRound seen current count line) most =
+left-bounded ways places number back (CutForRetry seen current count line) most =
     omega (arith, most (word_of count_bits number).tail, more-most back (waiting ways number))
 left-bounded ways places number back (Close seen count top) most =
     let a = most (word_of count_bits number).tail in
@@ -163,7 +163,7 @@ left-bounded ways places number back (Empty seen current count line) most =
     let d = more-most back (waiting ways number) in
     (by_seen-within number seen (2 * ways current + 1 + more_to_end back 0) (5 * waiting ways number + 5 + more_to_walk back (waiting ways number))
     0 (16 * places + 13) (omega arith) (omega arith) (omega (arith, b, c)) (omega (arith, a, d))).1
-left-bounded ways places number back (GoRound seen count top) most =
+left-bounded ways places number back (Retry seen count top) most =
     omega (arith, most (word_of count_bits number).tail, most top, more-most back (waiting ways number))
 left-bounded ways places number back (ShowLoad current value afterwards) most =
     omega (arith, most current, afterwards-bounded ways places number back afterwards most)
@@ -215,5 +215,5 @@ left-bounded ways places number back (PoisonExchange seen) most =
     (omega arith) (omega arith) (omega arith) (omega arith)).1
 left-bounded ways places number back Clear most = omega arith
 
-pub step_bound-bounded : (places : ℕ) (row : ℕ → ℕ) (back : Back) (stage : Stage) → step_bound places row back stage ≤ 16 * places + 13
+pub step_bound-bounded : (places : ℕ) (row : ℕ → ℕ) (back : AfterWalk) (stage : Stage) → step_bound places row back stage ≤ 16 * places + 13
 step_bound-bounded places row back stage = left-bounded (way places row) places (row 0) back stage (λ link. met-bounded places row places link)

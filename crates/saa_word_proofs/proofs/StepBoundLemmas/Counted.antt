@@ -5,20 +5,20 @@ use Rattle.saa_core_spec.proofs.Counts.{number_same, same_number, number_other}
 use Rattle.saa_core_words.specs.declared.word.Word.{Word}
 use Rattle.saa_core_words.specs.Words.{count_bits, word_number, word_of, line_word_of}
 use Rattle.saa_word_steps.specs.declared.place.Place.{Place}
-use Rattle.saa_word_steps.specs.declared.place.Given.{Given}
+use Rattle.saa_word_steps.specs.declared.place.ReleaseAmount.{ReleaseAmount}
 use Rattle.saa_word_steps.specs.declared.place.Ask.{Ask}
-use Rattle.saa_word_steps.specs.declared.place.Afterwards.{Afterwards}
-use Rattle.saa_word_steps.specs.declared.place.Afterwards.TheVariants.{Ends, Again}
-use Rattle.saa_word_steps.specs.declared.place.Back.{Back}
-use Rattle.saa_word_steps.specs.declared.place.Back.TheVariants.{Tells, Ends as EndsCall, Takes}
+use Rattle.saa_word_steps.specs.declared.place.AfterShow.{AfterShow}
+use Rattle.saa_word_steps.specs.declared.place.AfterShow.TheVariants.{Ends, Again}
+use Rattle.saa_word_steps.specs.declared.place.AfterWalk.{AfterWalk}
+use Rattle.saa_word_steps.specs.declared.place.AfterWalk.TheVariants.{Tells, Ends as EndsCall, Takes}
 use Rattle.saa_word_steps.specs.declared.place.Next.{Next}
 use Rattle.saa_word_steps.specs.declared.place.Next.TheVariants.{Going, Waits, Done}
 use Rattle.saa_word_steps.specs.declared.place.Stage.{Stage}
-use Rattle.saa_word_steps.specs.declared.place.Stage.TheVariants.{Quiet, ReadLoad, AskLoad, AskExchange, Prepare, Join, ReleaseLoad, ReleaseExchange, BackLoad, BackStore, Forward, CutToClose, CutToGoRound, Close, Empty, GoRound, ShowLoad, ShowStore, Take, FlagLoad, FlagExchange, LookLoad, LookStore, Unlink, DropTail, PoisonLoad, PoisonExchange, Clear}
+use Rattle.saa_word_steps.specs.declared.place.Stage.TheVariants.{Quiet, ReadLoad, AcquireLoad, AcquireExchange, Prepare, Join, ReleaseLoad, ReleaseExchange, BackLoad, BackStore, Forward, CutToClose, CutForRetry, Close, Empty, Retry, ShowLoad, ShowStore, Take, FlagLoad, FlagExchange, LookLoad, LookStore, Unlink, DropTail, PoisonLoad, PoisonExchange, Clear}
 use Rattle.saa_word_steps.specs.Needs.{Needs, AreNeeds, fits_count}
 use Rattle.saa_word_steps.specs.AbstractState.{AbstractState}
 use Rattle.saa_word_steps.specs.Steps.{left_from, word_at, operation_of, next_of, finished, granted, decided, gave_nothing, given_to, given, shown_all}
-use Rattle.saa_word_proofs.specs.Refinement.{Refines}
+use Rattle.saa_word_proofs.specs.Refinement.{Invariant}
 use Rattle.saa_word_proofs.specs.Rows.{updated}
 use Rattle.saa_word_proofs.specs.StepRefinement.{row_after, place_after}
 use Rattle.saa_word_proofs.proofs.RefinementLemmas.Lists.{each-updated, updated-same}
@@ -41,7 +41,7 @@ neither : (test : Bool) (one other : Next) → is_waiting one ≡ false → is_w
 neither true one other a b = a
 neither false one other a b = b
 
-finished-goes : (place : Place) (back : Back) → is_waiting (finished place back) ≡ false
+finished-goes : (place : Place) (back : AfterWalk) → is_waiting (finished place back) ≡ false
 finished-goes place Tells = refl
 finished-goes place EndsCall = refl
 finished-goes place (Takes request) = refl
@@ -55,12 +55,12 @@ decided-goes needs place ask seen =
     (neither (not (seen.tail == 0) || not (fits_count needs seen.count ask.request)) _ _
     (neither ask.joins _ _ refl refl) (neither (needs.takes ask.request == 0) _ _ (granted-goes needs place ask) refl))
 
-nothing-goes : (place : Place) (back : Back) → is_waiting (gave_nothing place back) ≡ false
+nothing-goes : (place : Place) (back : AfterWalk) → is_waiting (gave_nothing place back) ≡ false
 nothing-goes place Tells = refl
 nothing-goes place EndsCall = refl
 nothing-goes place (Takes request) = refl
 
-given-goes : (needs : Needs) (place : Place) (what : Given) (seen : Word) → is_waiting (given needs place what seen) ≡ false
+given-goes : (needs : Needs) (place : Place) (what : ReleaseAmount) (seen : Word) → is_waiting (given needs place what seen) ≡ false
 given-goes needs place what seen =
     neither seen.is_poisoned _ _ (nothing-goes place place.back) (left-goes (left_from needs seen.count what))
   where
@@ -68,7 +68,7 @@ given-goes needs place what seen =
     left-goes None = nothing-goes place place.back
     left-goes (Some left) = refl
 
-shown-goes : (place : Place) (afterwards : Afterwards) → is_waiting (shown_all place afterwards) ≡ false
+shown-goes : (place : Place) (afterwards : AfterShow) → is_waiting (shown_all place afterwards) ≡ false
 shown-goes place Ends = finished-goes place place.back
 shown-goes place (Again seen) = refl
 
@@ -77,7 +77,7 @@ never : {P : Type 0} (test : Bool) → test ≡ true → test ≡ false → P
 never test is not_so = let wrong : true ≡ false = sym is ∙ not_so in absurd (cc)
 
 -- what is left at a stage on the row behind a step is no more than before it
-abbrev IsNoMore : Needs → ℕ → (ℕ → ℕ) → ℕ → Back → Stage → Type 0
+abbrev IsNoMore : Needs → ℕ → (ℕ → ℕ) → ℕ → AfterWalk → Stage → Type 0
 IsNoMore needs places row me back stage =
     step_bound places (row_after row (operation_of needs places me stage)) back stage ≤ step_bound places row back stage
 
@@ -87,9 +87,9 @@ waits-kept : (needs : Needs) (places : ℕ) (row : ℕ → ℕ) (me : ℕ) (plac
     → IsNoMore needs places row me place.back stage
 waits-kept needs places row me place Quiet waits = never false waits refl
 waits-kept needs places row me place (ReadLoad reading) waits = never false waits refl
-waits-kept needs places row me place (AskLoad ask) waits = never _ waits
+waits-kept needs places row me place (AcquireLoad ask) waits = never _ waits
     (decided-goes needs place ask (word_of count_bits (row 0)))
-waits-kept needs places row me place (AskExchange ask seen) waits = never _ waits
+waits-kept needs places row me place (AcquireExchange ask seen) waits = never _ waits
     (neither (row 0 == word_number count_bits seen) _ _ (granted-goes needs place ask) (decided-goes needs place ask (word_of count_bits (row 0))))
 waits-kept needs places row me place (Prepare request seen) waits = never false waits refl
 waits-kept needs places row me place (Join request seen) waits = never _ waits
@@ -109,13 +109,13 @@ waits-kept needs places row me place (Forward seen current count) waits = never 
     (neither (current == seen.tail) _ _ refl refl)
     (neither ((line_word_of (row current)).older == 0) _ _ refl refl))
 waits-kept needs places row me place (CutToClose seen current count line) waits = never false waits refl
-waits-kept needs places row me place (CutToGoRound seen current count line) waits = never false waits refl
+waits-kept needs places row me place (CutForRetry seen current count line) waits = never false waits refl
 waits-kept needs places row me place (Close seen count top) waits = never _ waits
     (neither (row 0 == word_number count_bits seen) _ _
     (neither (top == 0) _ _ (finished-goes place place.back) refl) (neither ((word_of count_bits (row 0)).count == seen.count) _ _ refl refl))
 waits-kept needs places row me place (Empty seen current count line) waits = never _ waits
     (neither (row 0 == word_number count_bits seen) _ _ refl (neither (line.older == 0) _ _ refl refl))
-waits-kept needs places row me place (GoRound seen count top) waits = never _ waits
+waits-kept needs places row me place (Retry seen count top) waits = never _ waits
     (neither (top == 0) _ _ refl refl)
 waits-kept needs places row me place (ShowLoad current value afterwards) waits = never false waits refl
 waits-kept needs places row me place (ShowStore current next value afterwards) waits = never _ waits
@@ -161,7 +161,7 @@ own-within place made before places ways number (Done now answer) lower waits wi
 
 -- each step of a place that lowers its step bound keeps what all places have made and have left within the bound
 counted-by : (needs : Needs) (places : ℕ) (row : ℕ → ℕ) (standing : ℕ → Place) (state : AbstractState) (me : ℕ) (made : ℕ → ℕ)
-    → Refines needs places row standing state → IsLowered needs places row standing me (standing me).stage → AreWithin places row standing made
+    → Invariant needs places row standing state → IsLowered needs places row standing me (standing me).stage → AreWithin places row standing made
     → IsCounted needs places row standing me made (standing me).stage
 counted-by needs places row standing state me made s lower within =
     let found : ℕ = row (word_at (operation_of needs places me (standing me).stage)) in
@@ -184,7 +184,7 @@ counted-by needs places row standing state me made s lower within =
     ])
 
 pub counted-within : (needs : Needs) → AreNeeds needs → needs.top < 2 ^ count_bits → (places : ℕ) (row : ℕ → ℕ) (standing : ℕ → Place) (state : AbstractState) (me : ℕ)
-    (made : ℕ → ℕ) → Refines needs places row standing state → ((standing me).stage ≡ Quiet → ⊥) → AreWithin places row standing made
+    (made : ℕ → ℕ) → Invariant needs places row standing state → ((standing me).stage ≡ Quiet → ⊥) → AreWithin places row standing made
     → IsCounted needs places row standing me made (standing me).stage
 counted-within needs lawful wide places row standing state me made s busy within =
     counted-by needs places row standing state me made s (lowered needs lawful wide places row standing state me s (standing me).stage refl busy) within

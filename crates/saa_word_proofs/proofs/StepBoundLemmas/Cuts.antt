@@ -9,7 +9,7 @@ use Rattle.saa_core_words.specs.Words.{line_number, line_word_of}
 use Rattle.saa_word_steps.specs.declared.place.Place.{Place}
 use Rattle.saa_word_steps.specs.Needs.{Needs}
 use Rattle.saa_word_steps.specs.AbstractState.{AbstractState, is_empty}
-use Rattle.saa_word_proofs.specs.Refinement.{newest, oldest, IsAhead, Work, Refines}
+use Rattle.saa_word_proofs.specs.Refinement.{newest, oldest, IsAhead, Work, Invariant}
 use Rattle.saa_word_proofs.specs.Rows.{IsBehind, line_of, main_of, updated}
 use Rattle.saa_word_proofs.proofs.RefinementLemmas.Lists.{updated-at, behind-frame, behind-front, behind-rest, newest-append, newest-last}
 use Rattle.saa_word_proofs.proofs.RefinementLemmas.Rows.{row-other, line-at, line-other}
@@ -97,7 +97,7 @@ pub record IsCut (places : ℕ) (row new : ℕ → ℕ) (older front behind join
   pub front_ways : way places new older ≡ front
   pub rest_ways : waiting (way places new) (row 0) ≡ behind + joined
 
-pub cut-line : (needs : Needs) (places : ℕ) (row : ℕ → ℕ) (standing : ℕ → Place) (state : AbstractState) (s : Refines needs places row standing state)
+pub cut-line : (needs : Needs) (places : ℕ) (row : ℕ → ℕ) (standing : ℕ → Place) (state : AbstractState) (s : Invariant needs places row standing state)
     (seen : Word)
     (work : Work state.count state.line seen) (behind : List (ℕ × ℕ)) (current : ℕ) (line : LineWord) → s.cut ≡ [] → work.behind ≡ behind
     → current ≡ oldest behind
@@ -133,7 +133,7 @@ cut-line needs places row standing state s seen work (asker ∷ rest) current li
     })
 
 -- as many are met from the place that the holder looks at as stand in the front, and one more
-pub at-way : (needs : Needs) (places : ℕ) (row : ℕ → ℕ) (standing : ℕ → Place) (state : AbstractState) (s : Refines needs places row standing state) (seen : Word)
+pub at-way : (needs : Needs) (places : ℕ) (row : ℕ → ℕ) (standing : ℕ → Place) (state : AbstractState) (s : Invariant needs places row standing state) (seen : Word)
     (work : Work state.count state.line seen) (behind : List (ℕ × ℕ)) (current : ℕ) → s.cut ≡ [] → work.behind ≡ behind → current ≡ oldest behind
     → is_empty behind ≡ false → (way places row current ≡ length work.front + 1) × (0 < length work.behind)
 at-way needs places row standing state s seen work [] current whole is at some = absurd (cc)
@@ -143,7 +143,7 @@ at-way needs places row standing state s seen work (asker ∷ rest) current whol
 )
 
 -- the newer link of a place that isn't the tail that was seen leads to one more
-pub next-way : (needs : Needs) (places : ℕ) (row : ℕ → ℕ) (standing : ℕ → Place) (state : AbstractState) (s : Refines needs places row standing state)
+pub next-way : (needs : Needs) (places : ℕ) (row : ℕ → ℕ) (standing : ℕ → Place) (state : AbstractState) (s : Invariant needs places row standing state)
     (seen : Word)
     (work : Work state.count state.line seen) (behind : List (ℕ × ℕ)) (current : ℕ) → s.cut ≡ [] → work.behind ≡ behind → current ≡ oldest behind
     → is_empty behind ≡ false → IsAhead (line_of row) behind → current == seen.tail ≡ false

@@ -4,11 +4,11 @@ use Rattle.saa_core_words.specs.declared.line_word.LineWord.{LineWord}
 use Rattle.saa_core_words.specs.Words.{line_number, line_word_of}
 use Rattle.saa_word_steps.specs.declared.place.Place.{Place}
 use Rattle.saa_word_steps.specs.declared.place.Stage.{Stage}
-use Rattle.saa_word_steps.specs.declared.place.Stage.TheVariants.{Quiet, ReadLoad, AskLoad, AskExchange, Prepare, Join, ReleaseLoad, ReleaseExchange, BackLoad, BackStore, Forward, CutToClose, CutToGoRound, Close, Empty, GoRound, ShowLoad, ShowStore, Take, FlagLoad, FlagExchange, LookLoad, LookStore, Unlink, DropTail, PoisonLoad, PoisonExchange, Clear}
+use Rattle.saa_word_steps.specs.declared.place.Stage.TheVariants.{Quiet, ReadLoad, AcquireLoad, AcquireExchange, Prepare, Join, ReleaseLoad, ReleaseExchange, BackLoad, BackStore, Forward, CutToClose, CutForRetry, Close, Empty, Retry, ShowLoad, ShowStore, Take, FlagLoad, FlagExchange, LookLoad, LookStore, Unlink, DropTail, PoisonLoad, PoisonExchange, Clear}
 use Rattle.saa_word_steps.specs.Needs.{Needs}
 use Rattle.saa_word_steps.specs.AbstractState.{AbstractState}
 use Rattle.saa_word_steps.specs.Steps.{operation_of}
-use Rattle.saa_word_proofs.specs.Refinement.{is_holder, IsAlone, Refines}
+use Rattle.saa_word_proofs.specs.Refinement.{is_holder, IsLocallyTrue, Invariant}
 use Rattle.saa_word_proofs.specs.Rows.{updated}
 use Rattle.saa_word_proofs.specs.StepRefinement.{row_after}
 use Rattle.saa_word_proofs.proofs.RefinementLemmas.Lists.{updated-same}
@@ -21,7 +21,7 @@ use Rattle.saa_word_proofs.proofs.StepBoundLemmas.Leaves.{past-line}
 use Rattle.saa_word_proofs.proofs.StepBoundLemmas.Stores.{kept-row, kept-ways, kept-shorter, other-free, none-older, kept-cut, kept-prepare}
 
 -- a step at a stage that leaves the main word raises the step bound of no other place
-kept-by : (needs : Needs) (places : ℕ) (row : ℕ → ℕ) (standing : ℕ → Place) (state : AbstractState) (me other : ℕ) (s : Refines needs places row standing state)
+kept-by : (needs : Needs) (places : ℕ) (row : ℕ → ℕ) (standing : ℕ → Place) (state : AbstractState) (me other : ℕ) (s : Invariant needs places row standing state)
     → (other ≡ me → ⊥) → (stage : Stage) → (standing me).stage ≡ stage → row_after row (operation_of needs places me stage) 0 ≡ row 0
     → step_bound places (row_after row (operation_of needs places me stage)) (standing other).back (standing other).stage
     ≤ step_bound places row (standing other).back (standing other).stage
@@ -29,14 +29,14 @@ kept-by needs places row standing state me other s apart Quiet at main =
     kept-row places row (updated row 0 (row 0)) (standing other).back (standing other).stage (updated-same row 0 (row 0) refl)
 kept-by needs places row standing state me other s apart (ReadLoad reading) at main =
     kept-row places row (updated row 0 (row 0)) (standing other).back (standing other).stage (updated-same row 0 (row 0) refl)
-kept-by needs places row standing state me other s apart (AskLoad ask) at main =
+kept-by needs places row standing state me other s apart (AcquireLoad ask) at main =
     kept-row places row (updated row 0 (row 0)) (standing other).back (standing other).stage (updated-same row 0 (row 0) refl)
-kept-by needs places row standing state me other s apart (AskExchange ask seen) at main =
-    kept-row places row (row_after row (operation_of needs places me (AskExchange ask seen))) (standing other).back (standing other).stage
-    (updated-same row 0 (row_after row (operation_of needs places me (AskExchange ask seen)) 0) main)
+kept-by needs places row standing state me other s apart (AcquireExchange ask seen) at main =
+    kept-row places row (row_after row (operation_of needs places me (AcquireExchange ask seen))) (standing other).back (standing other).stage
+    (updated-same row 0 (row_after row (operation_of needs places me (AcquireExchange ask seen)) 0) main)
 kept-by needs places row standing state me other s apart (Prepare request seen) at main =
-    let alone : IsAlone needs (standing me).registration (standing me).back (Prepare request seen) =
-    subst (λ (stage : Stage). IsAlone needs (standing me).registration (standing me).back stage) at (s.stages.alone me) in
+    let alone : IsLocallyTrue needs (standing me).registration (standing me).back (Prepare request seen) =
+    subst (λ (stage : Stage). IsLocallyTrue needs (standing me).registration (standing me).back stage) at (s.stages.alone me) in
     kept-prepare needs places row standing state s me other (line_number (record { request = request; older = seen.tail; newer = 0 })) alone.1
 kept-by needs places row standing state me other s apart (Join request seen) at main =
     kept-row places row (row_after row (operation_of needs places me (Join request seen))) (standing other).back (standing other).stage
@@ -62,8 +62,8 @@ kept-by needs places row standing state me other s apart (CutToClose seen curren
     kept-cut places row current (line_number (record line { older = 0 })) (standing other).back (standing other).stage
     (other-free needs places row standing state s me other (ap is_holder at) apart)
     (ap (λ (w : LineWord). (line_word_of (line_number (record w { older = 0 }))).older) h.4 ∙ none-older (row (pred current + 1))) main
-kept-by needs places row standing state me other s apart (CutToGoRound seen current count line) at main =
-    let h = holds needs places row standing state s me (CutToGoRound seen current count line) at refl in
+kept-by needs places row standing state me other s apart (CutForRetry seen current count line) at main =
+    let h = holds needs places row standing state s me (CutForRetry seen current count line) at refl in
     kept-cut places row current (line_number (record line { older = 0 })) (standing other).back (standing other).stage
     (other-free needs places row standing state s me other (ap is_holder at) apart)
     (ap (λ (w : LineWord). (line_word_of (line_number (record w { older = 0 }))).older) h.4 ∙ none-older (row (pred current + 1))) main
@@ -73,9 +73,9 @@ kept-by needs places row standing state me other s apart (Close seen count top) 
 kept-by needs places row standing state me other s apart (Empty seen current count line) at main =
     kept-row places row (row_after row (operation_of needs places me (Empty seen current count line))) (standing other).back (standing other).stage
     (updated-same row 0 (row_after row (operation_of needs places me (Empty seen current count line)) 0) main)
-kept-by needs places row standing state me other s apart (GoRound seen count top) at main =
-    kept-row places row (row_after row (operation_of needs places me (GoRound seen count top))) (standing other).back (standing other).stage
-    (updated-same row 0 (row_after row (operation_of needs places me (GoRound seen count top)) 0) main)
+kept-by needs places row standing state me other s apart (Retry seen count top) at main =
+    kept-row places row (row_after row (operation_of needs places me (Retry seen count top))) (standing other).back (standing other).stage
+    (updated-same row 0 (row_after row (operation_of needs places me (Retry seen count top)) 0) main)
 kept-by needs places row standing state me other s apart (ShowLoad current value afterwards) at main =
     kept-row places row (updated row current (row current)) (standing other).back (standing other).stage (updated-same row current (row current) refl)
 kept-by needs places row standing state me other s apart (ShowStore current next value afterwards) at main =
@@ -116,6 +116,6 @@ kept-by needs places row standing state me other s apart Clear at main =
     kept-row places row (row_after row (operation_of needs places me Clear)) (standing other).back (standing other).stage
     (updated-same row 0 (row_after row (operation_of needs places me Clear) 0) main)
 
-pub kept : (needs : Needs) (places : ℕ) (row : ℕ → ℕ) (standing : ℕ → Place) (state : AbstractState) (me other : ℕ) → Refines needs places row standing state
+pub kept : (needs : Needs) (places : ℕ) (row : ℕ → ℕ) (standing : ℕ → Place) (state : AbstractState) (me other : ℕ) → Invariant needs places row standing state
     → (other ≡ me → ⊥) → IsKept needs places row standing me other
 kept needs places row standing state me other s apart = kept-by needs places row standing state me other s apart (standing me).stage refl

@@ -9,7 +9,7 @@ use Rattle.saa_core_words.specs.Words.{line_number, line_word_of}
 use Rattle.saa_word_steps.specs.declared.place.Place.{Place}
 use Rattle.saa_word_steps.specs.Needs.{Needs}
 use Rattle.saa_word_steps.specs.AbstractState.{AbstractState, is_empty}
-use Rattle.saa_word_proofs.specs.Refinement.{newest, oldest, IsFound, Work, Refines}
+use Rattle.saa_word_proofs.specs.Refinement.{newest, oldest, IsFound, Work, Invariant}
 use Rattle.saa_word_proofs.specs.Rows.{IsBehind, line_of, main_of, updated}
 use Rattle.saa_word_proofs.proofs.RefinementLemmas.Lists.{updated-at, behind-frame, behind-append, behind-front, behind-rest, newest-append}
 use Rattle.saa_word_proofs.proofs.RefinementLemmas.Rows.{row-other, line-at, line-other}
@@ -205,7 +205,7 @@ past-of places row tail before rest joined gone asker number leads tail_is reque
     }
 
 -- where the holder of the flag found itself, and links the first of those behind it past it
-pub past-line : (needs : Needs) (places : ℕ) (row : ℕ → ℕ) (standing : ℕ → Place) (state : AbstractState) (s : Refines needs places row standing state)
+pub past-line : (needs : Needs) (places : ℕ) (row : ℕ → ℕ) (standing : ℕ → Place) (state : AbstractState) (s : Invariant needs places row standing state)
     (me : ℕ) (seen : Word) (work : Work state.count state.line seen) (behind : List (ℕ × ℕ)) (newer older : ℕ) (line : LineWord)
     (found : IsFound me work.front older)
     → s.cut ≡ [] → work.behind ≡ behind → newer ≡ oldest behind → is_empty behind ≡ false → line ≡ line_of row (pred newer)

@@ -8,7 +8,7 @@ use Rattle.saa_word_steps.specs.declared.place.Place.{Place}
 use Rattle.saa_word_steps.specs.declared.place.Stage.{Stage}
 use Rattle.saa_word_steps.specs.Needs.{Needs}
 use Rattle.saa_word_steps.specs.AbstractState.{AbstractState, is_empty, held_by}
-use Rattle.saa_word_proofs.specs.Refinement.{newest, is_holder, IsShowing, Work, IsHolding, Refines}
+use Rattle.saa_word_proofs.specs.Refinement.{newest, is_holder, IsShowing, Work, IsHolding, Invariant}
 use Rattle.saa_word_proofs.specs.Rows.{line_of, main_of}
 use Rattle.saa_word_proofs.specs.Registering.{is_slot}
 use Rattle.saa_word_proofs.proofs.RefinementLemmas.Lists.{newest-any, newest-append, newest-last, in-some}
@@ -16,7 +16,7 @@ use Rattle.saa_word_proofs.specs.StepBound.{way, waiting}
 use Rattle.saa_word_proofs.proofs.StepBoundLemmas.Ways.{IsWay, way-length, way-front}
 
 -- what is held once at least is a place
-pub slot-within : (needs : Needs) (places : ℕ) (row : ℕ → ℕ) (standing : ℕ → Place) (state : AbstractState) (s : Refines needs places row standing state) (place : ℕ)
+pub slot-within : (needs : Needs) (places : ℕ) (row : ℕ → ℕ) (standing : ℕ → Place) (state : AbstractState) (s : Invariant needs places row standing state) (place : ℕ)
     → 0 < held_by place state → place < places
 slot-within needs places row standing state s place held =
     elim (cases_Bool (is_slot (standing place).registration)) [
@@ -25,19 +25,19 @@ slot-within needs places row standing state s place held =
     ]
 
 -- each place is held once at most
-pub held-once : (needs : Needs) (places : ℕ) (row : ℕ → ℕ) (standing : ℕ → Place) (state : AbstractState) (s : Refines needs places row standing state)
+pub held-once : (needs : Needs) (places : ℕ) (row : ℕ → ℕ) (standing : ℕ → Place) (state : AbstractState) (s : Invariant needs places row standing state)
     (place : ℕ)
     → held_by place state ≤ 1
 held-once needs places row standing state s place = omega (arith, s.seats.held place, one_if-le (is_slot (standing place).registration))
 
 -- an answer that a place has to show is due
-pub owed-due : (needs : Needs) (places : ℕ) (row : ℕ → ℕ) (standing : ℕ → Place) (state : AbstractState) (s : Refines needs places row standing state)
+pub owed-due : (needs : Needs) (places : ℕ) (row : ℕ → ℕ) (standing : ℕ → Place) (state : AbstractState) (s : Invariant needs places row standing state)
     (shows place : ℕ)
     → 0 < times place (s.owed shows) → state.due place ≡ Some (s.answer_value shows)
 owed-due needs places row standing state s shows place there = (s.debts.due_to shows place (in-some place (s.owed shows) there)).1
 
 -- the newest whose answer a place has to show leads along all of them
-pub owed-way : (needs : Needs) (places : ℕ) (row : ℕ → ℕ) (standing : ℕ → Place) (state : AbstractState) (s : Refines needs places row standing state) (shows : ℕ)
+pub owed-way : (needs : Needs) (places : ℕ) (row : ℕ → ℕ) (standing : ℕ → Place) (state : AbstractState) (s : Invariant needs places row standing state) (shows : ℕ)
     → IsWay places row (newest 0 (s.owed shows)) (s.owed shows)
 owed-way needs places row standing state s shows = record {
   behind = s.debts.links shows;
@@ -48,12 +48,12 @@ owed-way needs places row standing state s shows = record {
 }
 
 -- how often a place stands in the parts of the line
-parts-times : (needs : Needs) (places : ℕ) (row : ℕ → ℕ) (standing : ℕ → Place) (state : AbstractState) (s : Refines needs places row standing state) (place : ℕ)
+parts-times : (needs : Needs) (places : ℕ) (row : ℕ → ℕ) (standing : ℕ → Place) (state : AbstractState) (s : Invariant needs places row standing state) (place : ℕ)
     → times place state.line ≡ times place s.cut + times place s.uncut
 parts-times needs places row standing state s place = ap (times place) s.line.parts ∙ times-append place s.cut s.uncut
 
 -- the tail leads along the places that aren't cut off
-pub tail-newest : (needs : Needs) (places : ℕ) (row : ℕ → ℕ) (standing : ℕ → Place) (state : AbstractState) (s : Refines needs places row standing state)
+pub tail-newest : (needs : Needs) (places : ℕ) (row : ℕ → ℕ) (standing : ℕ → Place) (state : AbstractState) (s : Invariant needs places row standing state)
     → (main_of row).tail ≡ newest 0 s.uncut
 tail-newest needs places row standing state s =
     s.main.tail ∙ ap (newest 0) s.line.parts ∙ newest-append 0 s.cut s.uncut ∙ elim (cases_Bool (is_empty s.uncut)) [
@@ -61,7 +61,7 @@ tail-newest needs places row standing state s =
       | inr some ↦ newest-any (newest 0 s.cut) 0 s.uncut some
     ]
 
-pub uncut-way : (needs : Needs) (places : ℕ) (row : ℕ → ℕ) (standing : ℕ → Place) (state : AbstractState) (s : Refines needs places row standing state)
+pub uncut-way : (needs : Needs) (places : ℕ) (row : ℕ → ℕ) (standing : ℕ → Place) (state : AbstractState) (s : Invariant needs places row standing state)
     → IsWay places row (main_of row).tail s.uncut
 uncut-way needs places row standing state s = record {
   behind = s.line.stays;
@@ -71,7 +71,7 @@ uncut-way needs places row standing state s = record {
 }
 
 -- the newest of the places that are cut off leads along them
-pub cut-way : (needs : Needs) (places : ℕ) (row : ℕ → ℕ) (standing : ℕ → Place) (state : AbstractState) (s : Refines needs places row standing state)
+pub cut-way : (needs : Needs) (places : ℕ) (row : ℕ → ℕ) (standing : ℕ → Place) (state : AbstractState) (s : Invariant needs places row standing state)
     → IsWay places row (newest 0 s.cut) s.cut
 cut-way needs places row standing state s = record {
   behind = s.line.granted;
@@ -81,40 +81,40 @@ cut-way needs places row standing state s = record {
 }
 
 -- so many wait as aren't cut off
-pub rest-length : (needs : Needs) (places : ℕ) (row : ℕ → ℕ) (standing : ℕ → Place) (state : AbstractState) (s : Refines needs places row standing state)
+pub rest-length : (needs : Needs) (places : ℕ) (row : ℕ → ℕ) (standing : ℕ → Place) (state : AbstractState) (s : Invariant needs places row standing state)
     → waiting (way places row) (row 0) ≡ length s.uncut
 rest-length needs places row standing state s = way-length places row (main_of row).tail s.uncut (uncut-way needs places row standing state s)
 
 -- where nobody is cut off, the newest of a front of the line leads along it
-pub part-way : (needs : Needs) (places : ℕ) (row : ℕ → ℕ) (standing : ℕ → Place) (state : AbstractState) (s : Refines needs places row standing state)
+pub part-way : (needs : Needs) (places : ℕ) (row : ℕ → ℕ) (standing : ℕ → Place) (state : AbstractState) (s : Invariant needs places row standing state)
     → s.cut ≡ [] → (part rest : List (ℕ × ℕ)) → state.line ≡ part ++ rest → IsWay places row (newest 0 part) part
 part-way needs places row standing state s whole part rest is =
     way-front places row (main_of row).tail part rest
     (subst (λ (l : List (ℕ × ℕ)). IsWay places row (main_of row).tail l) (sym (uncut-line needs places row standing state s whole) ∙ is)
     (uncut-way needs places row standing state s))
   where
-    uncut-line : (needs : Needs) (places : ℕ) (row : ℕ → ℕ) (standing : ℕ → Place) (state : AbstractState) (s : Refines needs places row standing state)
+    uncut-line : (needs : Needs) (places : ℕ) (row : ℕ → ℕ) (standing : ℕ → Place) (state : AbstractState) (s : Invariant needs places row standing state)
         → s.cut ≡ [] → state.line ≡ s.uncut
     uncut-line needs places row standing state s whole = s.line.parts ∙ ap (λ (l : List (ℕ × ℕ)). l ++ s.uncut) whole
 
-pub part-length : (needs : Needs) (places : ℕ) (row : ℕ → ℕ) (standing : ℕ → Place) (state : AbstractState) (s : Refines needs places row standing state)
+pub part-length : (needs : Needs) (places : ℕ) (row : ℕ → ℕ) (standing : ℕ → Place) (state : AbstractState) (s : Invariant needs places row standing state)
     → s.cut ≡ [] → (part rest : List (ℕ × ℕ)) → state.line ≡ part ++ rest → way places row (newest 0 part) ≡ length part
 part-length needs places row standing state s whole part rest is =
     way-length places row (newest 0 part) part (part-way needs places row standing state s whole part rest is)
 
 -- what a place knows of the answers that it has to show
-pub shows : (needs : Needs) (places : ℕ) (row : ℕ → ℕ) (standing : ℕ → Place) (state : AbstractState) (s : Refines needs places row standing state) (me : ℕ)
+pub shows : (needs : Needs) (places : ℕ) (row : ℕ → ℕ) (standing : ℕ → Place) (state : AbstractState) (s : Invariant needs places row standing state) (me : ℕ)
     (stage : Stage) → (standing me).stage ≡ stage → IsShowing (s.owed me) (s.answer_value me) stage
 shows needs places row standing state s me stage at = subst (λ (now : Stage). IsShowing (s.owed me) (s.answer_value me) now) at (s.stages.showing me)
 
 -- The line as the holder of the flag sees it
 
 -- the flag's holder
-pub holder-is : (needs : Needs) (places : ℕ) (row : ℕ → ℕ) (standing : ℕ → Place) (state : AbstractState) (s : Refines needs places row standing state) (me : ℕ)
+pub holder-is : (needs : Needs) (places : ℕ) (row : ℕ → ℕ) (standing : ℕ → Place) (state : AbstractState) (s : Invariant needs places row standing state) (me : ℕ)
     → is_holder (standing me).stage ≡ true → s.holder ≡ me + 1
 holder-is needs places row standing state s me holds = same_number s.holder (me + 1) (sym (s.stages.one me) ∙ holds)
 
-pub holds : (needs : Needs) (places : ℕ) (row : ℕ → ℕ) (standing : ℕ → Place) (state : AbstractState) (s : Refines needs places row standing state)
+pub holds : (needs : Needs) (places : ℕ) (row : ℕ → ℕ) (standing : ℕ → Place) (state : AbstractState) (s : Invariant needs places row standing state)
     (me : ℕ) (stage : Stage)
     → (standing me).stage ≡ stage → is_holder stage ≡ true → IsHolding needs (line_of row) me state.count state.line s.cut stage
 holds needs places row standing state s me stage at is =
@@ -122,7 +122,7 @@ holds needs places row standing state s me stage at is =
     (s.stages.holding me (holder-is needs places row standing state s me (ap is_holder at ∙ is)))
 
 -- so many wait as the front, those behind it and those enqueued since
-pub work-rest : (needs : Needs) (places : ℕ) (row : ℕ → ℕ) (standing : ℕ → Place) (state : AbstractState) (s : Refines needs places row standing state)
+pub work-rest : (needs : Needs) (places : ℕ) (row : ℕ → ℕ) (standing : ℕ → Place) (state : AbstractState) (s : Invariant needs places row standing state)
     (seen : Word)
     (work : Work state.count state.line seen) → s.cut ≡ []
     → waiting (way places row) (row 0) ≡ length work.front + (length work.behind + length work.joined)
@@ -138,7 +138,7 @@ work-rest needs places row standing state s seen work whole =
     )
 
 -- the tail that was seen leads along the front and those behind it
-pub work-tail : (needs : Needs) (places : ℕ) (row : ℕ → ℕ) (standing : ℕ → Place) (state : AbstractState) (s : Refines needs places row standing state)
+pub work-tail : (needs : Needs) (places : ℕ) (row : ℕ → ℕ) (standing : ℕ → Place) (state : AbstractState) (s : Invariant needs places row standing state)
     (seen : Word)
     (work : Work state.count state.line seen) → s.cut ≡ [] → way places row seen.tail ≡ length work.front + length work.behind
 work-tail needs places row standing state s seen work whole =
@@ -148,7 +148,7 @@ work-tail needs places row standing state s seen work whole =
     ∙ length-append work.front work.behind
 
 -- the newest of the front leads along the front
-pub work-back : (needs : Needs) (places : ℕ) (row : ℕ → ℕ) (standing : ℕ → Place) (state : AbstractState) (s : Refines needs places row standing state)
+pub work-back : (needs : Needs) (places : ℕ) (row : ℕ → ℕ) (standing : ℕ → Place) (state : AbstractState) (s : Invariant needs places row standing state)
     (seen : Word)
     (work : Work state.count state.line seen) → s.cut ≡ [] → way places row (newest 0 work.front) ≡ length work.front
 work-back needs places row standing state s seen work whole =
@@ -156,7 +156,7 @@ work-back needs places row standing state s seen work whole =
 
 -- each of those behind the front leads along the front and those before it
 pub work-behind : (needs : Needs) (places : ℕ) (row : ℕ → ℕ) (standing : ℕ → Place) (state : AbstractState)
-    (s : Refines needs places row standing state) (seen : Word)
+    (s : Invariant needs places row standing state) (seen : Word)
     (work : Work state.count state.line seen) → s.cut ≡ [] → (before rest : List (ℕ × ℕ)) (last : ℕ × ℕ) → work.behind ≡ (before ++ last ∷ []) ++ rest
     → way places row (last.0 + 1) ≡ length work.front + (length before + 1)
 work-behind needs places row standing state s seen work whole before rest last is =

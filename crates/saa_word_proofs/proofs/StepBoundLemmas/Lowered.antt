@@ -3,31 +3,31 @@ use Rattle.std.proofs.Common.{◌^◌, ◌≡◌, ℕ, ◌+◌, ◌%◌, ◌<◌
 use Rattle.saa_core_words.specs.Words.{count_bits, word_of, answer_of}
 use Rattle.saa_word_steps.specs.declared.place.Place.{Place}
 use Rattle.saa_word_steps.specs.declared.place.Stage.{Stage}
-use Rattle.saa_word_steps.specs.declared.place.Stage.TheVariants.{Quiet, ReadLoad, AskLoad, AskExchange, Prepare, Join, ReleaseLoad, ReleaseExchange, BackLoad, BackStore, Forward, CutToClose, CutToGoRound, Close, Empty, GoRound, ShowLoad, ShowStore, Take, FlagLoad, FlagExchange, LookLoad, LookStore, Unlink, DropTail, PoisonLoad, PoisonExchange, Clear}
+use Rattle.saa_word_steps.specs.declared.place.Stage.TheVariants.{Quiet, ReadLoad, AcquireLoad, AcquireExchange, Prepare, Join, ReleaseLoad, ReleaseExchange, BackLoad, BackStore, Forward, CutToClose, CutForRetry, Close, Empty, Retry, ShowLoad, ShowStore, Take, FlagLoad, FlagExchange, LookLoad, LookStore, Unlink, DropTail, PoisonLoad, PoisonExchange, Clear}
 use Rattle.saa_word_steps.specs.Needs.{Needs, AreNeeds}
 use Rattle.saa_word_steps.specs.AbstractState.{AbstractState}
 use Rattle.saa_word_steps.specs.Steps.{next_of}
-use Rattle.saa_word_proofs.specs.Refinement.{Refines}
+use Rattle.saa_word_proofs.specs.Refinement.{Invariant}
 use Rattle.saa_word_proofs.specs.StepBound.{way, step_bound, IsLowered}
 use Rattle.saa_word_proofs.proofs.StepBoundLemmas.Ways.{ways-answer}
 use Rattle.saa_word_proofs.proofs.StepBoundLemmas.Nexts.{found-seen, onto-load, onto-same, decided-lower, given-lower, taken-lower, flagging-lower, poisoning-lower}
-use Rattle.saa_word_proofs.proofs.StepBoundLemmas.LoweredAsking.{lower-AskExchange, lower-Prepare, lower-Join, lower-ReleaseExchange}
-use Rattle.saa_word_proofs.proofs.StepBoundLemmas.LoweredWalking.{lower-BackLoad, lower-BackStore, lower-Forward, lower-CutToClose, lower-CutToGoRound}
-use Rattle.saa_word_proofs.proofs.StepBoundLemmas.LoweredShowing.{lower-Close, lower-Empty, lower-GoRound, lower-ShowLoad, lower-ShowStore}
+use Rattle.saa_word_proofs.proofs.StepBoundLemmas.LoweredAsking.{lower-AcquireExchange, lower-Prepare, lower-Join, lower-ReleaseExchange}
+use Rattle.saa_word_proofs.proofs.StepBoundLemmas.LoweredWalking.{lower-BackLoad, lower-BackStore, lower-Forward, lower-CutToClose, lower-CutForRetry}
+use Rattle.saa_word_proofs.proofs.StepBoundLemmas.LoweredShowing.{lower-Close, lower-Empty, lower-Retry, lower-ShowLoad, lower-ShowStore}
 use Rattle.saa_word_proofs.proofs.StepBoundLemmas.LoweredLeaving.{lower-FlagExchange, lower-LookLoad, lower-LookStore, lower-Unlink, lower-DropTail}
 use Rattle.saa_word_proofs.proofs.StepBoundLemmas.LoweredPoison.{lower-PoisonExchange}
 
 -- a step of a place lowers its step bound
 pub lowered : (needs : Needs) → AreNeeds needs → needs.top < 2 ^ count_bits → (places : ℕ) (row : ℕ → ℕ) (standing : ℕ → Place) (state : AbstractState) (me : ℕ)
-    → (s : Refines needs places row standing state) (stage : Stage) → (standing me).stage ≡ stage → (stage ≡ Quiet → ⊥)
+    → (s : Invariant needs places row standing state) (stage : Stage) → (standing me).stage ≡ stage → (stage ≡ Quiet → ⊥)
     → IsLowered needs places row standing me stage
 lowered needs lawful wide places row standing state me s Quiet at busy = absurd (busy refl)
 lowered needs lawful wide places row standing state me s (ReadLoad reading) at busy =
     onto-load places row 0 1 (next_of needs me (standing me) (ReadLoad reading) (row 0)) (refl, omega arith)
-lowered needs lawful wide places row standing state me s (AskLoad ask) at busy =
-    onto-load places row 0 3 (next_of needs me (standing me) (AskLoad ask) (row 0))
+lowered needs lawful wide places row standing state me s (AcquireLoad ask) at busy =
+    onto-load places row 0 3 (next_of needs me (standing me) (AcquireLoad ask) (row 0))
     (decided-lower (way places row) (row 0) 3 needs (standing me) ask (word_of count_bits (row 0)) (found-seen (row 0) s.main.whole) (omega arith))
-lowered needs lawful wide places row standing state me s (AskExchange ask seen) at busy = lower-AskExchange needs places row standing state me s ask seen
+lowered needs lawful wide places row standing state me s (AcquireExchange ask seen) at busy = lower-AcquireExchange needs places row standing state me s ask seen
 lowered needs lawful wide places row standing state me s (Prepare request seen) at busy = lower-Prepare needs places row standing me request seen
 lowered needs lawful wide places row standing state me s (Join request seen) at busy = lower-Join needs places row standing state me s request seen
 lowered needs lawful wide places row standing state me s (ReleaseLoad given_back) at busy =
@@ -43,14 +43,14 @@ lowered needs lawful wide places row standing state me s (Forward seen current c
     lower-Forward needs places row standing state me s seen current count at
 lowered needs lawful wide places row standing state me s (CutToClose seen current count line) at busy =
     lower-CutToClose needs places row standing state me s seen current count line at
-lowered needs lawful wide places row standing state me s (CutToGoRound seen current count line) at busy =
-    lower-CutToGoRound needs places row standing state me s seen current count line at
+lowered needs lawful wide places row standing state me s (CutForRetry seen current count line) at busy =
+    lower-CutForRetry needs places row standing state me s seen current count line at
 lowered needs lawful wide places row standing state me s (Close seen count top) at busy =
     lower-Close needs places row standing state me s seen count top at
 lowered needs lawful wide places row standing state me s (Empty seen current count line) at busy =
     lower-Empty needs places row standing state me s seen current count line at
-lowered needs lawful wide places row standing state me s (GoRound seen count top) at busy =
-    lower-GoRound needs lawful wide places row standing state me s seen count top at
+lowered needs lawful wide places row standing state me s (Retry seen count top) at busy =
+    lower-Retry needs lawful wide places row standing state me s seen count top at
 lowered needs lawful wide places row standing state me s (ShowLoad current value afterwards) at busy =
     lower-ShowLoad needs places row standing state me s current value afterwards at
 lowered needs lawful wide places row standing state me s (ShowStore current next value afterwards) at busy =

@@ -11,7 +11,7 @@ use Rattle.saa_word_steps.specs.declared.place.Stage.TheVariants.{BackLoad, Forw
 use Rattle.saa_word_steps.specs.Needs.{Needs}
 use Rattle.saa_word_steps.specs.AbstractState.{AbstractState}
 use Rattle.saa_word_steps.specs.Steps.{flagged_word, dropped_word, going, done, walking, flagging, looking, looked_for, left_line, next_of}
-use Rattle.saa_word_proofs.specs.Refinement.{newest, Refines}
+use Rattle.saa_word_proofs.specs.Refinement.{newest, Invariant}
 use Rattle.saa_word_proofs.specs.Rows.{line_of, updated}
 use Rattle.saa_word_proofs.proofs.RefinementLemmas.Frames.{newest-stands}
 use Rattle.saa_word_proofs.specs.StepBound.{way, waiting, steps_left, step_bound, IsLower, IsLowered}
@@ -26,7 +26,7 @@ use Rattle.saa_word_proofs.proofs.StepBoundLemmas.LoweredWalking.{older-way}
 -- Steps that set the flag and look
 
 pub lower-FlagExchange : (needs : Needs) (places : ℕ) (row : ℕ → ℕ) (standing : ℕ → Place) (state : AbstractState) (me : ℕ)
-    (s : Refines needs places row standing state) (seen : Word) → (standing me).stage ≡ FlagExchange seen
+    (s : Invariant needs places row standing state) (seen : Word) → (standing me).stage ≡ FlagExchange seen
     → IsLowered needs places row standing me (FlagExchange seen)
 lower-FlagExchange needs places row standing state me s seen at =
     let small = ranged-at needs places row standing state me s (FlagExchange seen) at in
@@ -42,7 +42,7 @@ lower-FlagExchange needs places row standing state me s seen at =
     flagging-lower (way places row) (row 0) (8 * waiting (way places row) (row 0) + 11) (standing me) (word_of count_bits (row 0))
     (found-seen (row 0) s.main.whole) (omega arith))
 
-pub lower-LookLoad : (needs : Needs) (places : ℕ) (row : ℕ → ℕ) (standing : ℕ → Place) (state : AbstractState) (me : ℕ) (s : Refines needs places row standing state)
+pub lower-LookLoad : (needs : Needs) (places : ℕ) (row : ℕ → ℕ) (standing : ℕ → Place) (state : AbstractState) (me : ℕ) (s : Invariant needs places row standing state)
     (seen : Word) (current newer : ℕ) (previous : LineWord) → (standing me).stage ≡ LookLoad seen current newer previous
     → IsLowered needs places row standing me (LookLoad seen current newer previous)
 lower-LookLoad needs places row standing state me s seen current newer previous at =
@@ -91,7 +91,7 @@ look-lower ways number place seen current newer line older nobody =
           ))
     ]
 
-pub lower-LookStore : (needs : Needs) (places : ℕ) (row : ℕ → ℕ) (standing : ℕ → Place) (state : AbstractState) (me : ℕ) (s : Refines needs places row standing state)
+pub lower-LookStore : (needs : Needs) (places : ℕ) (row : ℕ → ℕ) (standing : ℕ → Place) (state : AbstractState) (me : ℕ) (s : Invariant needs places row standing state)
     (seen : Word) (current newer : ℕ) (line : LineWord) → (standing me).stage ≡ LookStore seen current newer line
     → IsLowered needs places row standing me (LookStore seen current newer line)
 lower-LookStore needs places row standing state me s seen current newer line at =
@@ -110,7 +110,7 @@ lower-LookStore needs places row standing state me s seen current newer line at 
 
 -- Steps that leave the line
 
-pub lower-Unlink : (needs : Needs) (places : ℕ) (row : ℕ → ℕ) (standing : ℕ → Place) (state : AbstractState) (me : ℕ) (s : Refines needs places row standing state)
+pub lower-Unlink : (needs : Needs) (places : ℕ) (row : ℕ → ℕ) (standing : ℕ → Place) (state : AbstractState) (me : ℕ) (s : Invariant needs places row standing state)
     (seen : Word) (newer : ℕ) (line : LineWord) (older : ℕ) → (standing me).stage ≡ Unlink seen newer line older
     → IsLowered needs places row standing me (Unlink seen newer line older)
 lower-Unlink needs places row standing state me s seen newer line older at =
@@ -153,7 +153,7 @@ lower-Unlink needs places row standing state me s seen newer line older at =
 link-small : (number : ℕ) → (line_word_of number).older < 65536
 link-small number = omega arith
 
-pub lower-DropTail : (needs : Needs) (places : ℕ) (row : ℕ → ℕ) (standing : ℕ → Place) (state : AbstractState) (me : ℕ) (s : Refines needs places row standing state)
+pub lower-DropTail : (needs : Needs) (places : ℕ) (row : ℕ → ℕ) (standing : ℕ → Place) (state : AbstractState) (me : ℕ) (s : Invariant needs places row standing state)
     (seen : Word) (older : ℕ) → (standing me).stage ≡ DropTail seen older → IsLowered needs places row standing me (DropTail seen older)
 lower-DropTail needs places row standing state me s seen older at =
     let small = ranged-at needs places row standing state me s (DropTail seen older) at in

@@ -5,19 +5,19 @@ use Rattle.saa_core_spec.specs.Values.{poisoned_value}
 use Rattle.saa_core_words.specs.declared.word.Word.{Word}
 use Rattle.saa_core_words.specs.Words.{count_bits, word_number, word_of}
 use Rattle.saa_word_steps.specs.declared.place.Place.{Place}
-use Rattle.saa_word_steps.specs.declared.place.Afterwards.TheVariants.{Ends}
+use Rattle.saa_word_steps.specs.declared.place.AfterShow.TheVariants.{Ends}
 use Rattle.saa_word_steps.specs.declared.place.Stage.TheVariants.{ShowLoad, PoisonExchange}
 use Rattle.saa_word_steps.specs.Needs.{Needs}
 use Rattle.saa_word_steps.specs.AbstractState.{AbstractState}
 use Rattle.saa_word_steps.specs.Steps.{finished, going, poisoning}
 use Rattle.saa_word_steps.specs.Readings.{poisoned_word}
-use Rattle.saa_word_proofs.specs.Refinement.{Refines}
+use Rattle.saa_word_proofs.specs.Refinement.{Invariant}
 use Rattle.saa_word_proofs.specs.StepBound.{way, waiting, IsLowered}
 use Rattle.saa_word_proofs.proofs.StepBoundLemmas.Bounds.{end-none}
 use Rattle.saa_word_proofs.proofs.StepBoundLemmas.Nexts.{found-seen, waits-seen, ranged-at, alone-at, exchange-lower, finished-lower, poisoning-lower}
 
 pub lower-PoisonExchange : (needs : Needs) (places : ℕ) (row : ℕ → ℕ) (standing : ℕ → Place) (state : AbstractState) (me : ℕ)
-    (s : Refines needs places row standing state) (seen : Word) → (standing me).stage ≡ PoisonExchange seen
+    (s : Invariant needs places row standing state) (seen : Word) → (standing me).stage ≡ PoisonExchange seen
     → IsLowered needs places row standing me (PoisonExchange seen)
 lower-PoisonExchange needs places row standing state me s seen at =
     let small = ranged-at needs places row standing state me s (PoisonExchange seen) at in

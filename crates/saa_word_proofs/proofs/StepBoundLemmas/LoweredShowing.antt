@@ -6,14 +6,14 @@ use Rattle.saa_core_words.specs.declared.word.Word.{Word}
 use Rattle.saa_core_words.specs.declared.line_word.LineWord.{LineWord}
 use Rattle.saa_core_words.specs.Words.{count_bits, word_number, word_of, line_word_of}
 use Rattle.saa_word_steps.specs.declared.place.Place.{Place}
-use Rattle.saa_word_steps.specs.declared.place.Back.{Back}
-use Rattle.saa_word_steps.specs.declared.place.Afterwards.{Afterwards}
-use Rattle.saa_word_steps.specs.declared.place.Afterwards.TheVariants.{Ends, Again}
-use Rattle.saa_word_steps.specs.declared.place.Stage.TheVariants.{CutToGoRound, Close, Empty, GoRound, ShowLoad, ShowStore}
+use Rattle.saa_word_steps.specs.declared.place.AfterWalk.{AfterWalk}
+use Rattle.saa_word_steps.specs.declared.place.AfterShow.{AfterShow}
+use Rattle.saa_word_steps.specs.declared.place.AfterShow.TheVariants.{Ends, Again}
+use Rattle.saa_word_steps.specs.declared.place.Stage.TheVariants.{CutForRetry, Close, Empty, Retry, ShowLoad, ShowStore}
 use Rattle.saa_word_steps.specs.Needs.{Needs, AreNeeds}
 use Rattle.saa_word_steps.specs.AbstractState.{AbstractState, IsFront, takes_of}
 use Rattle.saa_word_steps.specs.Steps.{settled_word, finished, walking, going, shown_all}
-use Rattle.saa_word_proofs.specs.Refinement.{Refines}
+use Rattle.saa_word_proofs.specs.Refinement.{Invariant}
 use Rattle.saa_word_proofs.proofs.RefinementLemmas.Lists.{front-lower}
 use Rattle.saa_word_proofs.proofs.RefinementLemmas.Frames.{newest-stands}
 use Rattle.saa_word_proofs.specs.StepBound.{way, waiting, more_to_walk, more_to_end, step_bound, IsLowered}
@@ -25,12 +25,12 @@ use Rattle.saa_word_proofs.proofs.StepBoundLemmas.LoweredWalking.{older-way}
 
 -- Steps that publish
 
-pub lower-Close : (needs : Needs) (places : ℕ) (row : ℕ → ℕ) (standing : ℕ → Place) (state : AbstractState) (me : ℕ) (s : Refines needs places row standing state)
+pub lower-Close : (needs : Needs) (places : ℕ) (row : ℕ → ℕ) (standing : ℕ → Place) (state : AbstractState) (me : ℕ) (s : Invariant needs places row standing state)
     (seen : Word) (count top : ℕ) → (standing me).stage ≡ Close seen count top → IsLowered needs places row standing me (Close seen count top)
 lower-Close needs places row standing state me s seen count top at =
     let ranged = ranged-at needs places row standing state me s (Close seen count top) at in
     let alone = alone-at needs places row standing state me s (Close seen count top) at in
-    let back : Back = (standing me).back in
+    let back : AfterWalk = (standing me).back in
     let wait : ℕ = waiting (way places row) (row 0) in
     exchange-lower places row seen (settled_word count seen.tail)
     (2 * way places row top + 1 + more_to_end (standing me).back (waiting (way places row) (row 0)))
@@ -39,7 +39,7 @@ lower-Close needs places row standing state me s seen count top at =
     (if top == 0 then finished (standing me) (standing me).back else going (standing me) (ShowLoad top granted_value Ends))
     (if (word_of count_bits (row 0)).count == seen.count
     then going (standing me) (Close (word_of count_bits (row 0)) count top)
-    else going (standing me) (GoRound seen count top))
+    else going (standing me) (Retry seen count top))
     (λ same.
     let stays : waiting (way places row) (word_number count_bits (settled_word count seen.tail)) ≡ waiting (way places row) (row 0) =
     sym (waits-new (way places row) (settled_word count seen.tail) ranged.1 alone.0)
@@ -57,7 +57,7 @@ lower-Close needs places row standing state me s seen count top at =
       | inr less ↦ rw less (omega (arith, more-within back wait (wait + way places row top) (omega arith)))
     ])
 
-pub lower-Empty : (needs : Needs) (places : ℕ) (row : ℕ → ℕ) (standing : ℕ → Place) (state : AbstractState) (me : ℕ) (s : Refines needs places row standing state)
+pub lower-Empty : (needs : Needs) (places : ℕ) (row : ℕ → ℕ) (standing : ℕ → Place) (state : AbstractState) (me : ℕ) (s : Invariant needs places row standing state)
     (seen : Word) (current count : ℕ) (line : LineWord) → (standing me).stage ≡ Empty seen current count line
     → IsLowered needs places row standing me (Empty seen current count line)
 lower-Empty needs places row standing state me s seen current count line at =
@@ -69,8 +69,8 @@ lower-Empty needs places row standing state me s seen current count line at =
     (5 * waiting (way places row) (row 0) + 5 + more_to_walk (standing me).back (waiting (way places row) (row 0)))
     (going (standing me) (ShowLoad current granted_value Ends))
     (if line.older == 0
-    then going (standing me) (GoRound seen (count - needs.takes line.request) 0)
-    else going (standing me) (CutToGoRound seen current (count - needs.takes line.request) line))
+    then going (standing me) (Retry seen (count - needs.takes line.request) 0)
+    else going (standing me) (CutForRetry seen current (count - needs.takes line.request) line))
     (λ same. omega (arith, ap (more_to_end (standing me).back) none))
     (λ differs. elim (cases_Bool (line.older == 0)) [
       | inl oldest ↦ rw oldest (omega (arith, met-nobody places row places))
@@ -98,11 +98,11 @@ added-to number added small room =
       tail = ap (λ (n : ℕ). n / 2 ^ count_bits / 4 % 65536) whole ∙ ap (λ (n : ℕ). n / 4 % 65536) high;
     }
 
-pub lower-GoRound : (needs : Needs) → AreNeeds needs → needs.top < 2 ^ count_bits → (places : ℕ) (row : ℕ → ℕ) (standing : ℕ → Place) (state : AbstractState) (me : ℕ)
-    (s : Refines needs places row standing state) (seen : Word) (count top : ℕ) → (standing me).stage ≡ GoRound seen count top
-    → IsLowered needs places row standing me (GoRound seen count top)
-lower-GoRound needs lawful wide places row standing state me s seen count top at =
-    let h = holds needs places row standing state s me (GoRound seen count top) at refl in
+pub lower-Retry : (needs : Needs) → AreNeeds needs → needs.top < 2 ^ count_bits → (places : ℕ) (row : ℕ → ℕ) (standing : ℕ → Place) (state : AbstractState) (me : ℕ)
+    (s : Invariant needs places row standing state) (seen : Word) (count top : ℕ) → (standing me).stage ≡ Retry seen count top
+    → IsLowered needs places row standing me (Retry seen count top)
+lower-Retry needs lawful wide places row standing state me s seen count top at =
+    let h = holds needs places row standing state s me (Retry seen count top) at refl in
     let fits : IsFront needs state.count h.0.front = front-lower needs lawful state.count seen.count h.0.front h.0.count h.2.0 in
     let within = front-bounded needs lawful state.count h.0.front s.main.bounded fits in
     let added = added-to (row 0) (count - seen.count) s.main.whole (omega (arith, s.main.count, within, wide, h.2.1)) in
@@ -110,22 +110,22 @@ lower-GoRound needs lawful wide places row standing state me s seen count top at
     let tail : waiting (way places row) number ≡ waiting (way places row) (row 0) = ap (way places row) added.tail in
     let walks = ap (more_to_walk (standing me).back) tail in
     let fresh : number == word_number count_bits (word_of count_bits number) ≡ true = found-seen number added.whole in
-    onto-main places row number (step_bound places row (standing me).back (GoRound seen count top))
+    onto-main places row number (step_bound places row (standing me).back (Retry seen count top))
     (if top == 0
     then walking (standing me) (word_of count_bits number)
     else going (standing me) (ShowLoad top granted_value (Again (word_of count_bits number))))
     (elim (cases_Bool (top == 0)) [
       | inl none ↦
           rw none
-          (walking-lower (way places row) number (step_bound places row (standing me).back (GoRound seen count top)) (standing me) (word_of count_bits number)
+          (walking-lower (way places row) number (step_bound places row (standing me).back (Retry seen count top)) (standing me) (word_of count_bits number)
           fresh refl (omega (arith, tail, walks)))
       | inr some ↦ rw (some, fresh) (omega (arith, tail, walks))
     ])
 
 -- Steps that show
 
-pub lower-ShowLoad : (needs : Needs) (places : ℕ) (row : ℕ → ℕ) (standing : ℕ → Place) (state : AbstractState) (me : ℕ) (s : Refines needs places row standing state)
-    (current value : ℕ) (afterwards : Afterwards) → (standing me).stage ≡ ShowLoad current value afterwards
+pub lower-ShowLoad : (needs : Needs) (places : ℕ) (row : ℕ → ℕ) (standing : ℕ → Place) (state : AbstractState) (me : ℕ) (s : Invariant needs places row standing state)
+    (current value : ℕ) (afterwards : AfterShow) → (standing me).stage ≡ ShowLoad current value afterwards
     → IsLowered needs places row standing me (ShowLoad current value afterwards)
 lower-ShowLoad needs places row standing state me s current value afterwards at =
     let showing = shows needs places row standing state s me (ShowLoad current value afterwards) at in
@@ -137,8 +137,8 @@ lower-ShowLoad needs places row standing state me s current value afterwards at 
     (going (standing me) (ShowStore current (line_word_of (row current)).older value afterwards))
     (omega (arith, older))
 
-pub lower-ShowStore : (needs : Needs) (places : ℕ) (row : ℕ → ℕ) (standing : ℕ → Place) (state : AbstractState) (me : ℕ) (s : Refines needs places row standing state)
-    (current next value : ℕ) (afterwards : Afterwards) → (standing me).stage ≡ ShowStore current next value afterwards
+pub lower-ShowStore : (needs : Needs) (places : ℕ) (row : ℕ → ℕ) (standing : ℕ → Place) (state : AbstractState) (me : ℕ) (s : Invariant needs places row standing state)
+    (current next value : ℕ) (afterwards : AfterShow) → (standing me).stage ≡ ShowStore current next value afterwards
     → IsLowered needs places row standing me (ShowStore current next value afterwards)
 lower-ShowStore needs places row standing state me s current next value afterwards at =
     let showing = shows needs places row standing state s me (ShowStore current next value afterwards) at in

@@ -6,12 +6,12 @@ use Rattle.saa_core_words.specs.declared.word.Word.{Word}
 use Rattle.saa_core_words.specs.declared.line_word.LineWord.{LineWord}
 use Rattle.saa_core_words.specs.Words.{line_number, line_word_of}
 use Rattle.saa_word_steps.specs.declared.place.Place.{Place}
-use Rattle.saa_word_steps.specs.declared.place.Back.{Back}
-use Rattle.saa_word_steps.specs.declared.place.Stage.TheVariants.{BackLoad, BackStore, Forward, CutToClose, CutToGoRound, Close, GoRound}
+use Rattle.saa_word_steps.specs.declared.place.AfterWalk.{AfterWalk}
+use Rattle.saa_word_steps.specs.declared.place.Stage.TheVariants.{BackLoad, BackStore, Forward, CutToClose, CutForRetry, Close, Retry}
 use Rattle.saa_word_steps.specs.Needs.{Needs}
 use Rattle.saa_word_steps.specs.AbstractState.{AbstractState, is_empty}
 use Rattle.saa_word_steps.specs.Steps.{going, looked_at, next_of}
-use Rattle.saa_word_proofs.specs.Refinement.{newest, Refines}
+use Rattle.saa_word_proofs.specs.Refinement.{newest, Invariant}
 use Rattle.saa_word_proofs.specs.Rows.{line_of, updated}
 use Rattle.saa_word_proofs.proofs.RefinementLemmas.Lists.{split-last, newest-last}
 use Rattle.saa_word_proofs.proofs.RefinementLemmas.Frames.{newest-stands}
@@ -62,7 +62,7 @@ back-lower ways number place seen current newer line older nobody =
     ]
 
 -- one more is met from the newest of a front than from its older link
-pub older-way : (needs : Needs) (places : ℕ) (row : ℕ → ℕ) (standing : ℕ → Place) (state : AbstractState) (s : Refines needs places row standing state)
+pub older-way : (needs : Needs) (places : ℕ) (row : ℕ → ℕ) (standing : ℕ → Place) (state : AbstractState) (s : Invariant needs places row standing state)
     (list : List (ℕ × ℕ))
     → IsWay places row (newest 0 list) list → is_empty list ≡ false → (current : ℕ) → current ≡ newest 0 list
     → way places row current ≡ way places row (line_of row (pred current)).older + 1
@@ -77,7 +77,7 @@ older-way needs places row standing state s list leads some current is =
     ∙ length-append parts.before (parts.last ∷ [])
     ∙ ap (λ (n : ℕ). n + 1) (sym before ∙ ap (λ (n : ℕ). way places row (line_of row n).older) place_is)
 
-pub lower-BackStore : (needs : Needs) (places : ℕ) (row : ℕ → ℕ) (standing : ℕ → Place) (state : AbstractState) (me : ℕ) (s : Refines needs places row standing state)
+pub lower-BackStore : (needs : Needs) (places : ℕ) (row : ℕ → ℕ) (standing : ℕ → Place) (state : AbstractState) (me : ℕ) (s : Invariant needs places row standing state)
     (seen : Word) (current newer : ℕ) (line : LineWord) → (standing me).stage ≡ BackStore seen current newer line
     → IsLowered needs places row standing me (BackStore seen current newer line)
 lower-BackStore needs places row standing state me s seen current newer line at =
@@ -94,7 +94,7 @@ lower-BackStore needs places row standing state me s seen current newer line at 
     (ways-store places row current (line_number (record line { newer = newer })) kept)
     (back-lower (way places row) (row 0) (standing me) seen current newer line older (met-nobody places row places))
 
-pub lower-Forward : (needs : Needs) (places : ℕ) (row : ℕ → ℕ) (standing : ℕ → Place) (state : AbstractState) (me : ℕ) (s : Refines needs places row standing state)
+pub lower-Forward : (needs : Needs) (places : ℕ) (row : ℕ → ℕ) (standing : ℕ → Place) (state : AbstractState) (me : ℕ) (s : Invariant needs places row standing state)
     (seen : Word) (current count : ℕ) → (standing me).stage ≡ Forward seen current count → IsLowered needs places row standing me
     (Forward seen current count)
 lower-Forward needs places row standing state me s seen current count at =
@@ -109,7 +109,7 @@ lower-Forward needs places row standing state me s seen current count at =
     (λ more. next-way needs places row standing state s seen h.0 h.0.behind current h.1 refl h.3.0 h.3.1 h.3.2 more ∙ omega (arith, here.0)))
 
 pub lower-CutToClose : (needs : Needs) (places : ℕ) (row : ℕ → ℕ) (standing : ℕ → Place) (state : AbstractState) (me : ℕ)
-    (s : Refines needs places row standing state)
+    (s : Invariant needs places row standing state)
     (seen : Word) (current count : ℕ) (line : LineWord) → (standing me).stage ≡ CutToClose seen current count line
     → IsLowered needs places row standing me (CutToClose seen current count line)
 lower-CutToClose needs places row standing state me s seen current count line at =
@@ -120,7 +120,7 @@ lower-CutToClose needs places row standing state me s seen current count line at
     let front = parted.front_ways in
     let stays = parted.rest_ways in
     let new : ℕ → ℕ = updated row current (line_number (record line { older = 0 })) in
-    let back : Back = (standing me).back in
+    let back : AfterWalk = (standing me).back in
     let ends = end-within back (waiting (way places new) (row 0)) (waiting (way places row) (row 0)) (omega (arith, rest, stays)) in
     let walks =
     more-within back (waiting (way places new) (row 0) + way places new line.older) (waiting (way places row) (row 0)) (omega (arith, front, rest, stays)) in
@@ -133,12 +133,12 @@ lower-CutToClose needs places row standing state me s seen current count line at
     (2 * waiting (way places row) (row 0) + 2) (5 * waiting (way places row) (row 0) + 5) (more_to_walk back (waiting (way places row) (row 0)))
     (omega (arith, front, rest, stays, ends)) (omega (arith, front, rest, stays, here.1, walks)))
 
-pub lower-CutToGoRound : (needs : Needs) (places : ℕ) (row : ℕ → ℕ) (standing : ℕ → Place) (state : AbstractState) (me : ℕ)
-    (s : Refines needs places row standing state)
-    (seen : Word) (current count : ℕ) (line : LineWord) → (standing me).stage ≡ CutToGoRound seen current count line
-    → IsLowered needs places row standing me (CutToGoRound seen current count line)
-lower-CutToGoRound needs places row standing state me s seen current count line at =
-    let h = holds needs places row standing state s me (CutToGoRound seen current count line) at refl in
+pub lower-CutForRetry : (needs : Needs) (places : ℕ) (row : ℕ → ℕ) (standing : ℕ → Place) (state : AbstractState) (me : ℕ)
+    (s : Invariant needs places row standing state)
+    (seen : Word) (current count : ℕ) (line : LineWord) → (standing me).stage ≡ CutForRetry seen current count line
+    → IsLowered needs places row standing me (CutForRetry seen current count line)
+lower-CutForRetry needs places row standing state me s seen current count line at =
+    let h = holds needs places row standing state s me (CutForRetry seen current count line) at refl in
     let rest = work-rest needs places row standing state s seen h.0 h.1 in
     let parted = cut-line needs places row standing state s seen h.0 h.0.behind current line h.1 refl h.3.0 h.3.1 h.4 in
     let front = parted.front_ways in
@@ -146,7 +146,7 @@ lower-CutToGoRound needs places row standing state me s seen current count line 
     let new : ℕ → ℕ = updated row current (line_number (record line { older = 0 })) in
     let walks =
     more-within (standing me).back (waiting (way places new) (row 0)) (waiting (way places row) (row 0)) (omega (arith, rest, stays)) in
-    subst (λ (n : ℕ). IsLower (way places new) n (step_bound places row (standing me).back (CutToGoRound seen current count line))
-    (going (standing me) (GoRound seen count line.older)))
+    subst (λ (n : ℕ). IsLower (way places new) n (step_bound places row (standing me).back (CutForRetry seen current count line))
+    (going (standing me) (Retry seen count line.older)))
     (sym parted.number)
     (omega (arith, front, rest, stays, walks))

@@ -8,25 +8,25 @@ use Rattle.saa_core_words.specs.declared.line_word.LineWord.{LineWord}
 use Rattle.saa_core_words.specs.Words.{count_bits, word_number, word_of, lock_count}
 use Rattle.saa_core_words.proofs.Words.{word-read}
 use Rattle.saa_word_steps.specs.declared.place.Place.{Place}
-use Rattle.saa_word_steps.specs.declared.place.Given.{Given}
+use Rattle.saa_word_steps.specs.declared.place.ReleaseAmount.{ReleaseAmount}
 use Rattle.saa_word_steps.specs.declared.place.Ask.{Ask}
-use Rattle.saa_word_steps.specs.declared.place.Afterwards.{Afterwards}
-use Rattle.saa_word_steps.specs.declared.place.Afterwards.TheVariants.{Ends, Again}
-use Rattle.saa_word_steps.specs.declared.place.Back.{Back}
-use Rattle.saa_word_steps.specs.declared.place.Back.TheVariants.{Tells, Ends as EndsCall, Takes}
-use Rattle.saa_word_steps.specs.declared.place.Taking.{Taking}
-use Rattle.saa_word_steps.specs.declared.place.Taking.TheVariants.{Tries, Awaits, Gives}
+use Rattle.saa_word_steps.specs.declared.place.AfterShow.{AfterShow}
+use Rattle.saa_word_steps.specs.declared.place.AfterShow.TheVariants.{Ends, Again}
+use Rattle.saa_word_steps.specs.declared.place.AfterWalk.{AfterWalk}
+use Rattle.saa_word_steps.specs.declared.place.AfterWalk.TheVariants.{Tells, Ends as EndsCall, Takes}
+use Rattle.saa_word_steps.specs.declared.place.PollMode.{PollMode}
+use Rattle.saa_word_steps.specs.declared.place.PollMode.TheVariants.{Tries, Awaits, Gives}
 use Rattle.saa_word_steps.specs.declared.place.Next.{Next}
 use Rattle.saa_word_steps.specs.declared.place.Next.TheVariants.{Waits}
 use Rattle.saa_word_steps.specs.declared.place.Stage.{Stage}
-use Rattle.saa_word_steps.specs.declared.place.Stage.TheVariants.{Prepare, AskExchange, Forward, Take, FlagExchange, LookLoad, PoisonExchange}
+use Rattle.saa_word_steps.specs.declared.place.Stage.TheVariants.{Prepare, AcquireExchange, Forward, Take, FlagExchange, LookLoad, PoisonExchange}
 use Rattle.saa_word_steps.specs.Needs.{Needs, fits_count}
 use Rattle.saa_core_spec.specs.Held.{Exclusive}
 use Rattle.saa_core_spec.specs.Values.{granted_value}
 use Rattle.saa_word_steps.specs.AbstractState.{AbstractState}
 use Rattle.saa_word_steps.specs.Steps.{left_from, IsRanged, IsSmall, exchanged, going, done, finished, granted, found_poisoned, decided, gave_nothing, given_to, given, walking, shown_all, dropped, taken_answer, looked_at, flagging, looking, looked_for, poisoning}
 use Rattle.saa_word_steps.specs.Readings.{tried_answer}
-use Rattle.saa_word_proofs.specs.Refinement.{IsAlone, Refines}
+use Rattle.saa_word_proofs.specs.Refinement.{IsLocallyTrue, Invariant}
 use Rattle.saa_word_proofs.specs.Rows.{updated}
 use Rattle.saa_word_proofs.specs.StepRefinement.{row_after}
 use Rattle.saa_word_proofs.proofs.RefinementLemmas.Lists.{updated-same}
@@ -87,14 +87,14 @@ waits-seen ways number seen small tail same = ap (λ (w : Word). ways w.tail) (m
 
 -- What a place at a stage remembers
 
-pub ranged-at : (needs : Needs) (places : ℕ) (row : ℕ → ℕ) (standing : ℕ → Place) (state : AbstractState) (me : ℕ) → Refines needs places row standing state
+pub ranged-at : (needs : Needs) (places : ℕ) (row : ℕ → ℕ) (standing : ℕ → Place) (state : AbstractState) (me : ℕ) → Invariant needs places row standing state
     → (stage : Stage) → (standing me).stage ≡ stage → IsRanged needs stage
 ranged-at needs places row standing state me s stage at = subst (λ (now : Stage). IsRanged needs now) at (s.stages.ranged me)
 
-pub alone-at : (needs : Needs) (places : ℕ) (row : ℕ → ℕ) (standing : ℕ → Place) (state : AbstractState) (me : ℕ) → Refines needs places row standing state
-    → (stage : Stage) → (standing me).stage ≡ stage → IsAlone needs (standing me).registration (standing me).back stage
+pub alone-at : (needs : Needs) (places : ℕ) (row : ℕ → ℕ) (standing : ℕ → Place) (state : AbstractState) (me : ℕ) → Invariant needs places row standing state
+    → (stage : Stage) → (standing me).stage ≡ stage → IsLocallyTrue needs (standing me).registration (standing me).back stage
 alone-at needs places row standing state me s stage at =
-    subst (λ (now : Stage). IsAlone needs (standing me).registration (standing me).back now) at (s.stages.alone me)
+    subst (λ (now : Stage). IsLocallyTrue needs (standing me).registration (standing me).back now) at (s.stages.alone me)
 
 -- Rows with the same ways
 
@@ -136,7 +136,7 @@ either-lower ways number before true one other is not_so = is refl
 either-lower ways number before false one other is not_so = not_so refl
 
 -- a call that is done with the line has to take its own answer, or nothing
-pub finished-lower : (ways : ℕ → ℕ) (number before : ℕ) (place : Place) (back : Back) → more_to_end back (waiting ways number) < before
+pub finished-lower : (ways : ℕ → ℕ) (number before : ℕ) (place : Place) (back : AfterWalk) → more_to_end back (waiting ways number) < before
     → IsLower ways number before (finished place back)
 finished-lower ways number before place Tells more = (refl, more)
 finished-lower ways number before place EndsCall more = (refl, more)
@@ -164,7 +164,7 @@ decided-lower ways number before needs place ask seen fresh more =
     either-lower ways number before seen.is_poisoned (found_poisoned place ask)
     (if not (seen.tail == 0) || not (fits_count needs seen.count ask.request)
     then (if ask.joins then going place (Prepare ask.request seen) else done place (tried_answer needs false))
-    else (if needs.takes ask.request == 0 then granted needs place ask else going place (AskExchange ask seen)))
+    else (if needs.takes ask.request == 0 then granted needs place ask else going place (AcquireExchange ask seen)))
     (λ poisoned. poisoned-lower ways number before place ask (omega (arith, more)))
     (λ sound. elim (cases_Bool (not (seen.tail == 0) || not (fits_count needs seen.count ask.request))) [
       | inl waits ↦
@@ -180,18 +180,18 @@ decided-lower ways number before needs place ask seen fresh more =
     ])
 
 -- who gives nothing back is done
-gave-lower : (ways : ℕ → ℕ) (number before : ℕ) (place : Place) (back : Back) → 0 < before → IsLower ways number before (gave_nothing place back)
+gave-lower : (ways : ℕ → ℕ) (number before : ℕ) (place : Place) (back : AfterWalk) → 0 < before → IsLower ways number before (gave_nothing place back)
 gave-lower ways number before place Tells some = (refl, some)
 gave-lower ways number before place EndsCall some = (refl, some)
 gave-lower ways number before place (Takes request) some = (refl, some)
 
-given_to-lower : (ways : ℕ → ℕ) (number before : ℕ) (place : Place) (what : Given) (seen : Word) (left : Option ℕ)
+given_to-lower : (ways : ℕ → ℕ) (number before : ℕ) (place : Place) (what : ReleaseAmount) (seen : Word) (left : Option ℕ)
     → number == word_number count_bits seen ≡ true → 5 * waiting ways number + 3 < before → IsLower ways number before
     (given_to place what seen left)
 given_to-lower ways number before place what seen None fresh more = gave-lower ways number before place place.back (omega (arith, more))
 given_to-lower ways number before place what seen (Some left) fresh more = rw fresh more
 
-pub given-lower : (ways : ℕ → ℕ) (number before : ℕ) (needs : Needs) (place : Place) (what : Given) (seen : Word)
+pub given-lower : (ways : ℕ → ℕ) (number before : ℕ) (needs : Needs) (place : Place) (what : ReleaseAmount) (seen : Word)
     → number == word_number count_bits seen ≡ true → 5 * waiting ways number + 3 < before
     → IsLower ways number before (given needs place what seen)
 given-lower ways number before needs place what seen fresh more =
@@ -253,7 +253,7 @@ looked-lower ways number needs place seen current count line within behind nobod
           ]
     ]
 
-pub shown-lower : (ways : ℕ → ℕ) (number before : ℕ) (place : Place) (afterwards : Afterwards)
+pub shown-lower : (ways : ℕ → ℕ) (number before : ℕ) (place : Place) (afterwards : AfterShow)
     → ((seen : Word) → afterwards ≡ Again seen → number == word_number count_bits seen ≡ true → ways seen.tail ≤ waiting ways number)
     → left_afterwards ways number place.back afterwards < before → IsLower ways number before (shown_all place afterwards)
 shown-lower ways number before place Ends tail more = finished-lower ways number before place place.back more
@@ -278,7 +278,7 @@ dropped-lower ways number before needs place request value more =
     ]
 
 -- who looks at its own answer takes it, or waits
-pub taken-lower : (ways : ℕ → ℕ) (number : ℕ) (needs : Needs) (place : Place) (taking : Taking) (answer : Option ℕ)
+pub taken-lower : (ways : ℕ → ℕ) (number : ℕ) (needs : Needs) (place : Place) (taking : PollMode) (answer : Option ℕ)
     → IsLower ways number (steps_left ways number place.back (Take taking)) (taken_answer needs place taking answer)
 taken-lower ways number needs place (Gives request) (Some value) =
     dropped-lower ways number (5 * waiting ways number + 5) needs place request value (omega arith)

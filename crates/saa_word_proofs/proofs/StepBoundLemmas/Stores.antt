@@ -7,16 +7,16 @@ use Rattle.saa_core_spec.proofs.Counts.{same_number, times-append}
 use Rattle.saa_core_words.specs.declared.word.Word.{Word}
 use Rattle.saa_core_words.specs.Words.{count_bits, word_number, word_of, line_number, line_word_of}
 use Rattle.saa_word_steps.specs.declared.place.Place.{Place}
-use Rattle.saa_word_steps.specs.declared.place.Afterwards.{Afterwards}
-use Rattle.saa_word_steps.specs.declared.place.Afterwards.TheVariants.{Ends, Again}
-use Rattle.saa_word_steps.specs.declared.place.Back.{Back}
-use Rattle.saa_word_steps.specs.declared.place.Back.TheVariants.{Tells, Ends as EndsCall, Takes}
-use Rattle.saa_word_steps.specs.declared.place.Taking.TheVariants.{Tries, Awaits, Gives}
+use Rattle.saa_word_steps.specs.declared.place.AfterShow.{AfterShow}
+use Rattle.saa_word_steps.specs.declared.place.AfterShow.TheVariants.{Ends, Again}
+use Rattle.saa_word_steps.specs.declared.place.AfterWalk.{AfterWalk}
+use Rattle.saa_word_steps.specs.declared.place.AfterWalk.TheVariants.{Tells, Ends as EndsCall, Takes}
+use Rattle.saa_word_steps.specs.declared.place.PollMode.TheVariants.{Tries, Awaits, Gives}
 use Rattle.saa_word_steps.specs.declared.place.Stage.{Stage}
-use Rattle.saa_word_steps.specs.declared.place.Stage.TheVariants.{Quiet, ReadLoad, AskLoad, AskExchange, Prepare, Join, ReleaseLoad, ReleaseExchange, BackLoad, BackStore, Forward, CutToClose, CutToGoRound, Close, Empty, GoRound, ShowLoad, ShowStore, Take, FlagLoad, FlagExchange, LookLoad, LookStore, Unlink, DropTail, PoisonLoad, PoisonExchange, Clear}
+use Rattle.saa_word_steps.specs.declared.place.Stage.TheVariants.{Quiet, ReadLoad, AcquireLoad, AcquireExchange, Prepare, Join, ReleaseLoad, ReleaseExchange, BackLoad, BackStore, Forward, CutToClose, CutForRetry, Close, Empty, Retry, ShowLoad, ShowStore, Take, FlagLoad, FlagExchange, LookLoad, LookStore, Unlink, DropTail, PoisonLoad, PoisonExchange, Clear}
 use Rattle.saa_word_steps.specs.Needs.{Needs}
 use Rattle.saa_word_steps.specs.AbstractState.{AbstractState, is_empty, held_by}
-use Rattle.saa_word_proofs.specs.Refinement.{newest, oldest, is_holder, Work, IsFound, Refines}
+use Rattle.saa_word_proofs.specs.Refinement.{newest, oldest, is_holder, Work, IsFound, Invariant}
 use Rattle.saa_word_proofs.specs.Rows.{main_of, updated}
 use Rattle.saa_word_proofs.specs.Registering.{is_slot}
 use Rattle.saa_word_proofs.proofs.RefinementLemmas.Lists.{updated-at, newest-last}
@@ -29,11 +29,11 @@ use Rattle.saa_word_proofs.proofs.StepBoundLemmas.Leaves.{way-kept}
 
 -- Rows with the same ways
 
-pub kept-row : (places : ℕ) (row new : ℕ → ℕ) (back : Back) (stage : Stage) → new ≡ row
+pub kept-row : (places : ℕ) (row new : ℕ → ℕ) (back : AfterWalk) (stage : Stage) → new ≡ row
     → step_bound places new back stage ≤ step_bound places row back stage
 kept-row places row new back stage same = omega (arith, ap (λ (now : ℕ → ℕ). step_bound places now back stage) same)
 
-pub kept-ways : (places : ℕ) (row new : ℕ → ℕ) (back : Back) (stage : Stage) → way places new ≡ way places row → new 0 ≡ row 0
+pub kept-ways : (places : ℕ) (row new : ℕ → ℕ) (back : AfterWalk) (stage : Stage) → way places new ≡ way places row → new 0 ≡ row 0
     → step_bound places new back stage ≤ step_bound places row back stage
 kept-ways places row new back stage same number =
     omega (arith, ap (λ (ways : ℕ → ℕ). steps_left ways (new 0) back stage) same ∙ ap (λ (n : ℕ). steps_left (way places row) n back stage) number)
@@ -49,18 +49,18 @@ by-at-most number seen same stale higher_same higher_stale a b =
     ]
 
 -- where fewer wait, less is left to end
-end-at-most : (back : Back) (now before : ℕ) → now ≤ before → more_to_end back now ≤ more_to_end back before
+end-at-most : (back : AfterWalk) (now before : ℕ) → now ≤ before → more_to_end back now ≤ more_to_end back before
 end-at-most Tells now before less = omega arith
 end-at-most EndsCall now before less = omega arith
 end-at-most (Takes request) now before less = omega (arith, less)
 
 -- where no way gets longer, the step bound of a place that doesn't hold the flag isn't raised
-shorter : (ways new : ℕ → ℕ) (number : ℕ) (back : Back) (stage : Stage) → is_holder stage ≡ false → ((link : ℕ) → new link ≤ ways link)
+shorter : (ways new : ℕ → ℕ) (number : ℕ) (back : AfterWalk) (stage : Stage) → is_holder stage ≡ false → ((link : ℕ) → new link ≤ ways link)
     → steps_left new number back stage ≤ steps_left ways number back stage
 shorter ways new number back Quiet free less = omega arith
 shorter ways new number back (ReadLoad reading) free less = omega arith
-shorter ways new number back (AskLoad ask) free less = omega arith
-shorter ways new number back (AskExchange ask seen) free less = omega arith
+shorter ways new number back (AcquireLoad ask) free less = omega arith
+shorter ways new number back (AcquireExchange ask seen) free less = omega arith
 shorter ways new number back (Prepare request seen) free less = omega arith
 shorter ways new number back (Join request seen) free less = omega arith
 shorter ways new number back (ReleaseLoad given) free less = omega (arith, less (word_of count_bits number).tail)
@@ -72,10 +72,10 @@ shorter ways new number back (BackLoad seen current newer) free less = absurd (c
 shorter ways new number back (BackStore seen current newer line) free less = absurd (cc)
 shorter ways new number back (Forward seen current count) free less = absurd (cc)
 shorter ways new number back (CutToClose seen current count line) free less = absurd (cc)
-shorter ways new number back (CutToGoRound seen current count line) free less = absurd (cc)
+shorter ways new number back (CutForRetry seen current count line) free less = absurd (cc)
 shorter ways new number back (Close seen count top) free less = absurd (cc)
 shorter ways new number back (Empty seen current count line) free less = absurd (cc)
-shorter ways new number back (GoRound seen count top) free less = absurd (cc)
+shorter ways new number back (Retry seen count top) free less = absurd (cc)
 shorter ways new number back (ShowLoad current value Ends) free less =
     omega (arith, less current, end-at-most back (waiting new number) (waiting ways number) (less (word_of count_bits number).tail))
 shorter ways new number back (ShowLoad current value (Again seen)) free less = absurd (cc)
@@ -102,14 +102,14 @@ shorter ways new number back (PoisonExchange seen) free less =
 shorter ways new number back Clear free less = omega arith
 
 -- so no step bound of such a place is raised
-pub kept-shorter : (places : ℕ) (row new : ℕ → ℕ) (back : Back) (stage : Stage) → is_holder stage ≡ false
+pub kept-shorter : (places : ℕ) (row new : ℕ → ℕ) (back : AfterWalk) (stage : Stage) → is_holder stage ≡ false
     → ((link : ℕ) → way places new link ≤ way places row link) → new 0 ≡ row 0 → step_bound places new back stage ≤ step_bound places row back stage
 kept-shorter places row new back stage free less main =
     subst (λ (n : ℕ). steps_left (way places new) n back stage ≤ step_bound places row back stage) (sym main)
     (shorter (way places row) (way places new) (row 0) back stage free less)
 
 -- beside the flag's holder no place holds it
-pub other-free : (needs : Needs) (places : ℕ) (row : ℕ → ℕ) (standing : ℕ → Place) (state : AbstractState) (s : Refines needs places row standing state)
+pub other-free : (needs : Needs) (places : ℕ) (row : ℕ → ℕ) (standing : ℕ → Place) (state : AbstractState) (s : Invariant needs places row standing state)
     (me other : ℕ)
     → is_holder (standing me).stage ≡ true → (other ≡ me → ⊥) → is_holder (standing other).stage ≡ false
 other-free needs places row standing state s me other is apart =
@@ -126,7 +126,7 @@ pub none-older : (number : ℕ) → (line_word_of (line_number (record (line_wor
 none-older number = omega arith
 
 -- a cut raises no step bound of a place that doesn't hold the flag
-pub kept-cut : (places : ℕ) (row : ℕ → ℕ) (index number : ℕ) (back : Back) (stage : Stage) → is_holder stage ≡ false
+pub kept-cut : (places : ℕ) (row : ℕ → ℕ) (index number : ℕ) (back : AfterWalk) (stage : Stage) → is_holder stage ≡ false
     → (line_word_of number).older ≡ 0 → updated row index number 0 ≡ row 0
     → step_bound places (updated row index number) back stage ≤ step_bound places row back stage
 kept-cut places row index number back stage free none main =
@@ -142,7 +142,7 @@ kept-cut places row index number back stage free none main =
 -- A place that writes its own line word before it joins
 
 -- what is left depends on these ways only
-abbrev AreSameAfterwards : (ℕ → ℕ) → (ℕ → ℕ) → ℕ → Afterwards → Type 0
+abbrev AreSameAfterwards : (ℕ → ℕ) → (ℕ → ℕ) → ℕ → AfterShow → Type 0
 AreSameAfterwards ways new number Ends = waiting new number ≡ waiting ways number
 AreSameAfterwards ways new number (Again seen) = (waiting new number ≡ waiting ways number) × (new seen.tail ≡ ways seen.tail)
 
@@ -156,10 +156,10 @@ AreSame ways new number (BackStore seen current newer line) =
 AreSame ways new number (Forward seen current count) =
     (waiting new number ≡ waiting ways number) × (new seen.tail ≡ ways seen.tail) × (new current ≡ ways current)
 AreSame ways new number (CutToClose seen current count line) = waiting new number ≡ waiting ways number
-AreSame ways new number (CutToGoRound seen current count line) = waiting new number ≡ waiting ways number
+AreSame ways new number (CutForRetry seen current count line) = waiting new number ≡ waiting ways number
 AreSame ways new number (Close seen count top) = (waiting new number ≡ waiting ways number) × (new top ≡ ways top)
 AreSame ways new number (Empty seen current count line) = (waiting new number ≡ waiting ways number) × (new current ≡ ways current)
-AreSame ways new number (GoRound seen count top) = (waiting new number ≡ waiting ways number) × (new top ≡ ways top)
+AreSame ways new number (Retry seen count top) = (waiting new number ≡ waiting ways number) × (new top ≡ ways top)
 AreSame ways new number (ShowLoad current value afterwards) = (new current ≡ ways current) × AreSameAfterwards ways new number afterwards
 AreSame ways new number (ShowStore current next value afterwards) = (new next ≡ ways next) × AreSameAfterwards ways new number afterwards
 AreSame ways new number (Take (Gives request)) = waiting new number ≡ waiting ways number
@@ -176,17 +176,17 @@ AreSame ways new number PoisonLoad = waiting new number ≡ waiting ways number
 AreSame ways new number (PoisonExchange seen) = waiting new number ≡ waiting ways number
 AreSame ways new number _ = Unit {0}
 
-same-afterwards : (ways new : ℕ → ℕ) (number : ℕ) (back : Back) (afterwards : Afterwards) → AreSameAfterwards ways new number afterwards
+same-afterwards : (ways new : ℕ → ℕ) (number : ℕ) (back : AfterWalk) (afterwards : AfterShow) → AreSameAfterwards ways new number afterwards
     → left_afterwards new number back afterwards ≡ left_afterwards ways number back afterwards
 same-afterwards ways new number back Ends same = rw same refl
 same-afterwards ways new number back (Again seen) same = rw (same.0, same.1) refl
 
-same-left : (ways new : ℕ → ℕ) (number : ℕ) (back : Back) (stage : Stage) → AreSame ways new number stage
+same-left : (ways new : ℕ → ℕ) (number : ℕ) (back : AfterWalk) (stage : Stage) → AreSame ways new number stage
     → steps_left new number back stage ≡ steps_left ways number back stage
 same-left ways new number back Quiet same = refl
 same-left ways new number back (ReadLoad reading) same = refl
-same-left ways new number back (AskLoad ask) same = refl
-same-left ways new number back (AskExchange ask seen) same = refl
+same-left ways new number back (AcquireLoad ask) same = refl
+same-left ways new number back (AcquireExchange ask seen) same = refl
 same-left ways new number back (Prepare request seen) same = refl
 same-left ways new number back (Join request seen) same = refl
 same-left ways new number back (ReleaseLoad given) same = rw same refl
@@ -195,10 +195,10 @@ same-left ways new number back (BackLoad seen current newer) same = rw (same.0, 
 same-left ways new number back (BackStore seen current newer line) same = rw (same.0, same.1, same.2) refl
 same-left ways new number back (Forward seen current count) same = rw (same.0, same.1, same.2) refl
 same-left ways new number back (CutToClose seen current count line) same = rw same refl
-same-left ways new number back (CutToGoRound seen current count line) same = rw same refl
+same-left ways new number back (CutForRetry seen current count line) same = rw same refl
 same-left ways new number back (Close seen count top) same = rw (same.0, same.1) refl
 same-left ways new number back (Empty seen current count line) same = rw (same.0, same.1) refl
-same-left ways new number back (GoRound seen count top) same = rw (same.0, same.1) refl
+same-left ways new number back (Retry seen count top) same = rw (same.0, same.1) refl
 same-left ways new number back (ShowLoad current value afterwards) same =
     rw (same.0, same-afterwards ways new number back afterwards same.1) refl
 same-left ways new number back (ShowStore current next value afterwards) same =
@@ -217,7 +217,7 @@ same-left ways new number back (PoisonExchange seen) same = rw same refl
 same-left ways new number back Clear same = refl
 
 -- a place that isn't held by the object, and what a store to its line word leaves of the others' ways
-module _ (needs : Needs) (places : ℕ) (row : ℕ → ℕ) (standing : ℕ → Place) (state : AbstractState) (s : Refines needs places row standing state) (me number : ℕ)
+module _ (needs : Needs) (places : ℕ) (row : ℕ → ℕ) (standing : ℕ → Place) (state : AbstractState) (s : Invariant needs places row standing state) (me number : ℕ)
     (free : held_by me state ≡ 0) where
   rest-kept : waiting (way places (updated row (me + 1) number)) (row 0) ≡ waiting (way places row) (row 0)
   rest-kept =
@@ -288,8 +288,8 @@ module _ (needs : Needs) (places : ℕ) (row : ℕ → ℕ) (standing : ℕ → 
       (way places (updated row (me + 1) number)) (row 0) stage
   ways-kept other Quiet at = tt
   ways-kept other (ReadLoad reading) at = tt
-  ways-kept other (AskLoad ask) at = tt
-  ways-kept other (AskExchange ask seen) at = tt
+  ways-kept other (AcquireLoad ask) at = tt
+  ways-kept other (AcquireExchange ask seen) at = tt
   ways-kept other (Prepare request seen) at = tt
   ways-kept other (Join request seen) at = tt
   ways-kept other (ReleaseLoad given) at = rest-kept
@@ -304,15 +304,15 @@ module _ (needs : Needs) (places : ℕ) (row : ℕ → ℕ) (standing : ℕ → 
       let h = holds needs places row standing state s other (Forward seen current count) at refl in
       (rest-kept, tail-kept seen h.0 h.1, at-kept seen h.0 h.0.behind current h.1 refl h.3.0 h.3.1)
   ways-kept other (CutToClose seen current count line) at = rest-kept
-  ways-kept other (CutToGoRound seen current count line) at = rest-kept
+  ways-kept other (CutForRetry seen current count line) at = rest-kept
   ways-kept other (Close seen count top) at =
       let h = holds needs places row standing state s other (Close seen count top) at refl in
       (rest-kept, cut-kept h.0.front top h.1 h.3)
   ways-kept other (Empty seen current count line) at =
       let h = holds needs places row standing state s other (Empty seen current count line) at refl in
       (rest-kept, at-kept seen h.0 h.0.behind current h.1 refl h.3.0 h.3.1)
-  ways-kept other (GoRound seen count top) at =
-      let h = holds needs places row standing state s other (GoRound seen count top) at refl in
+  ways-kept other (Retry seen count top) at =
+      let h = holds needs places row standing state s other (Retry seen count top) at refl in
       (rest-kept, cut-kept h.0.front top h.1 h.3)
   ways-kept other (ShowLoad current value Ends) at =
       let showing = shows needs places row standing state s other (ShowLoad current value Ends) at in
@@ -348,12 +348,12 @@ module _ (needs : Needs) (places : ℕ) (row : ℕ → ℕ) (standing : ℕ → 
   ways-kept other Clear at = tt
 
 -- a place that isn't registered isn't held
-free-place : (needs : Needs) (places : ℕ) (row : ℕ → ℕ) (standing : ℕ → Place) (state : AbstractState) (s : Refines needs places row standing state) (me : ℕ)
+free-place : (needs : Needs) (places : ℕ) (row : ℕ → ℕ) (standing : ℕ → Place) (state : AbstractState) (s : Invariant needs places row standing state) (me : ℕ)
     → is_slot (standing me).registration ≡ false → held_by me state ≡ 0
 free-place needs places row standing state s me none = s.seats.held me ∙ ap one_if none
 
 -- so what such a place writes into its own line word leaves the step bounds of the others
-pub kept-prepare : (needs : Needs) (places : ℕ) (row : ℕ → ℕ) (standing : ℕ → Place) (state : AbstractState) (s : Refines needs places row standing state)
+pub kept-prepare : (needs : Needs) (places : ℕ) (row : ℕ → ℕ) (standing : ℕ → Place) (state : AbstractState) (s : Invariant needs places row standing state)
     (me other number : ℕ)
     → is_slot (standing me).registration ≡ false
     → step_bound places (updated row (me + 1) number) (standing other).back (standing other).stage

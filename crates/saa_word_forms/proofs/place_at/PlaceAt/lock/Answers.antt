@@ -1,11 +1,11 @@
 use Rattle.std.proofs.Common.{◌≡◌, ◌∙◌, ◌+◌, true, suc, inl, inr}
 use Rattle.saa_core_spec.specs.declared.lock.Mode.TheVariants.{Exclusive}
-use Rattle.saa_word_threads.specs.Locks.{IsWaited}
+use Rattle.saa_word_threads.specs.Locks.{AcquiresAndPolls}
 use Rattle.saa_word_forms.proofs.place_at.PlaceAt.lock.Goals as goal
 
 pub returns-then-ask_lock-clause-granted : goal.returns-then-ask_lock-clause-granted
 returns-then-ask_lock-clause-granted g c =
-    let waited : IsWaited Exclusive c.loop.self.place true c.ask_lock.new.self.place = c.if-ask_lock.ensures.waited in
+    let waited : AcquiresAndPolls Exclusive c.loop.self.place true c.ask_lock.new.self.place = c.if-ask_lock.ensures.waited in
     ∣ (c.loop.self.place, inr waited) ∣₁
 
 pub returns-then-ask_lock-clause-taken : goal.returns-then-ask_lock-clause-taken

@@ -1,11 +1,11 @@
 use Rattle.std.proofs.Common.{◌≡◌, ◌∙◌, ◌+◌, true, suc, inl, inr}
 use Rattle.saa_core_spec.specs.declared.lock.Mode.TheVariants.{Shared}
-use Rattle.saa_word_threads.specs.Locks.{IsWaited}
+use Rattle.saa_word_threads.specs.Locks.{AcquiresAndPolls}
 use Rattle.saa_word_forms.proofs.place_at.PlaceAt.share.Goals as goal
 
 pub returns-then-ask_share-clause-granted : goal.returns-then-ask_share-clause-granted
 returns-then-ask_share-clause-granted g c =
-    let waited : IsWaited Shared c.loop.self.place true c.ask_share.new.self.place = c.if-ask_share.ensures.waited in
+    let waited : AcquiresAndPolls Shared c.loop.self.place true c.ask_share.new.self.place = c.if-ask_share.ensures.waited in
     ∣ (c.loop.self.place, inr (inl waited)) ∣₁
 
 pub returns-then-ask_share-clause-taken : goal.returns-then-ask_share-clause-taken

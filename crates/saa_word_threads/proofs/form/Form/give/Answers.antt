@@ -2,8 +2,8 @@ use Rattle.std.proofs.Common.{rules, ◌∙◌, ◌≡◌, true, Some, refl, sym
 use Rattle.saa_core_words.specs.declared.word.Word.{Word}
 use Rattle.saa_core_words.specs.Words.{count_bits, word_number}
 use Rattle.saa_word_steps.specs.declared.call.Answer.TheVariants.{Bool as Says}
-use Rattle.saa_word_steps.specs.declared.place.Back.TheVariants.{Tells}
-use Rattle.saa_word_steps.specs.declared.place.Given.TheVariants.{Asked}
+use Rattle.saa_word_steps.specs.declared.place.AfterWalk.TheVariants.{Tells}
+use Rattle.saa_word_steps.specs.declared.place.ReleaseAmount.TheVariants.{Requested}
 use Rattle.saa_word_steps.specs.declared.place.Stage.TheVariants.{Quiet, ReleaseLoad}
 use Rattle.saa_word_steps.specs.Steps.{exchanged}
 use Rattle.saa_word_threads.specs.Pending.{needs}
@@ -15,7 +15,7 @@ use Rattle.saa_word_threads.proofs.form.Form.give.Goals as goal
 pub seek_by_load-found-requires-clause-pending : goal.seek_by_load-found-requires-clause-pending
 seek_by_load-found-requires-clause-pending g c =
     rw (c.of-looking.ensures)
-    (pending-begins c.args.self.now c.of-pending.result c.args.place.now c.args.call (record c.args.place.now.position { stage = ReleaseLoad (Asked c.args.request); back = Tells })
+    (pending-begins c.args.self.now c.of-pending.result c.args.place.now c.args.call (record c.args.place.now.position { stage = ReleaseLoad (Requested c.args.request); back = Tells })
     c.of-pending.ensures c.requires.dealt (search rules) c.requires.takes c.requires.starts)
 
 pub seek_by_exchange-other-requires-clause-pending : goal.seek_by_exchange-other-requires-clause-pending
@@ -42,7 +42,7 @@ returns-in_default-clause-called g c = (
   c.give_on.result,
   c.yes.ensures,
   pending-called c.args.self.now c.of-pending.result c.args.place.now c.args.call
-      (record c.args.place.now.position { stage = ReleaseLoad (Asked c.args.request); back = Tells })
+      (record c.args.place.now.position { stage = ReleaseLoad (Requested c.args.request); back = Tells })
       c.give_on.new.position c.give_on.result c.give_on.new.seat c.of-pending.ensures c.requires.starts c.give_on.ensures.ended,
 )
 
@@ -51,7 +51,7 @@ returns-then-other-old-clause-called g c = (
   c.give_anew.result,
   c.yes-then-other-old.ensures,
   pending-called c.args.self.now c.of-pending.result c.args.place.now c.args.call
-      (record c.args.place.now.position { stage = ReleaseLoad (Asked c.args.request); back = Tells })
+      (record c.args.place.now.position { stage = ReleaseLoad (Requested c.args.request); back = Tells })
       c.give_anew.new.position c.give_anew.result c.give_anew.new.seat c.of-pending.ensures c.requires.starts
       c.give_anew.ensures.ended,
 )
@@ -63,7 +63,7 @@ returns-clause-called g c =
       Says true,
       refl,
       pending-called c.args.self.now c.of-pending.result c.args.place.now c.args.call
-          (record c.args.place.now.position { stage = ReleaseLoad (Asked c.args.request); back = Tells })
+          (record c.args.place.now.position { stage = ReleaseLoad (Requested c.args.request); back = Tells })
           (record c.args.place.now.position { stage = Quiet; back = Tells }) (Says true) c.seek_by_exchange-other.new.seat c.of-pending.ensures c.requires.starts
           (give-made c.args.self.now c.of-pending.result c.args.place.now.position c.args.request c.unpack-seen.result
           c.seek_by_exchange-other.result c.of-changing.result.value c.seek_by_exchange-other.new.seat c.of-changing.ensures hit

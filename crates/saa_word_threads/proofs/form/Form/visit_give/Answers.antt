@@ -3,7 +3,7 @@ use Rattle.saa_word_threads.specs.declared.table.View.{View}
 use Rattle.std.proofs.Common.{rules, ap, refl, sym, ◌≡◌, ◌∙◌, true, Some}
 use Rattle.saa_core_words.specs.Words.{count_bits, word_number}
 use Rattle.saa_word_steps.specs.declared.call.Answer.TheVariants.{Bool as Says}
-use Rattle.saa_word_steps.specs.declared.place.Given.TheVariants.{Asked}
+use Rattle.saa_word_steps.specs.declared.place.ReleaseAmount.TheVariants.{Requested}
 use Rattle.saa_word_steps.specs.declared.place.Stage.TheVariants.{ReleaseLoad}
 use Rattle.saa_word_steps.specs.Needs.{needs_of}
 use Rattle.saa_word_proofs.specs.Promises.{idle_place}
@@ -16,7 +16,7 @@ use Rattle.saa_word_threads.proofs.form.Form.visit_give.Goals as goal
 pub visit_look-found-requires-clause-in_call : goal.visit_look-found-requires-clause-in_call
 visit_look-found-requires-clause-in_call g c =
     rw (c.of-visit.ensures.call, c.of-visit.ensures.seat, c.of-looking.ensures, c.standing.ensures)
-    (visit-first (needs_of c.args.self.now.rules) c.args.self.now.places c.args.call (record idle_place { stage = ReleaseLoad (Asked c.args.request) }) c.args.visitor.now.seat.me.0
+    (visit-first (needs_of c.args.self.now.rules) c.args.self.now.places c.args.call (record idle_place { stage = ReleaseLoad (Requested c.args.request) }) c.args.visitor.now.seat.me.0
     c.args.visitor.now.rests.1
     (number-beyond c.args.self.now.places c.args.self.now.table.shared.table_id.words c.args.visitor.now.seat.table_id.words c.args.visitor.now.seat.me.0.number
     c.args.self.now.words (search rules) c.args.visitor.now.beyond)
@@ -28,7 +28,7 @@ returns-clause-called g c =
     let hit : c.visit_change-other.result ≡ word_number count_bits c.unpack-seen.result = search rules in (
       Says true,
       refl,
-      going-called (needs_of c.args.self.now.rules) c.args.self.now.table.shared.key.withheld c.args.call idle_place refl (record idle_place { stage = ReleaseLoad (Asked c.args.request) }) (Says true) Idle
+      going-called (needs_of c.args.self.now.rules) c.args.self.now.table.shared.key.withheld c.args.call idle_place refl (record idle_place { stage = ReleaseLoad (Requested c.args.request) }) (Says true) Idle
           c.args.visitor.now.seat.me.0 c.visit_change-other.new.seat.me.0 c.requires.starts
           (visit-gave-so (needs_of c.args.self.now.rules) c.args.self.now.table.shared.key.withheld c.args.self.now.places c.args.call c.of-visit.result.call.value c.args.visitor.now.seat.me.0
           c.of-visit.result.seat.value.me.0 c.visit_change-other.new.seat.me.0 c.of-changing.result.value c.args.request

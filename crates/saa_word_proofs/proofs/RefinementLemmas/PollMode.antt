@@ -9,25 +9,25 @@ use Rattle.saa_core_words.specs.declared.line_word.LineWord.{LineWord}
 use Rattle.saa_core_words.specs.Words.{count_bits, answer_number, answer_of}
 use Rattle.saa_core_words.proofs.Words.{answer-read}
 use Rattle.saa_word_steps.specs.declared.place.Place.{Place}
-use Rattle.saa_word_steps.specs.declared.place.Given.TheVariants.{Asked}
+use Rattle.saa_word_steps.specs.declared.place.ReleaseAmount.TheVariants.{Requested}
 use Rattle.saa_word_steps.specs.declared.place.Registration.{Registration}
 use Rattle.saa_word_steps.specs.declared.place.Registration.TheVariants.{Idle}
-use Rattle.saa_word_steps.specs.declared.place.Afterwards.{Afterwards}
-use Rattle.saa_word_steps.specs.declared.place.Afterwards.TheVariants.{Ends, Again}
-use Rattle.saa_word_steps.specs.declared.place.Back.{Back}
-use Rattle.saa_word_steps.specs.declared.place.Back.TheVariants.{Ends as EndsCall}
-use Rattle.saa_word_steps.specs.declared.place.Taking.{Taking}
-use Rattle.saa_word_steps.specs.declared.place.Taking.TheVariants.{Tries, Awaits, Gives}
+use Rattle.saa_word_steps.specs.declared.place.AfterShow.{AfterShow}
+use Rattle.saa_word_steps.specs.declared.place.AfterShow.TheVariants.{Ends, Again}
+use Rattle.saa_word_steps.specs.declared.place.AfterWalk.{AfterWalk}
+use Rattle.saa_word_steps.specs.declared.place.AfterWalk.TheVariants.{Ends as EndsCall}
+use Rattle.saa_word_steps.specs.declared.place.PollMode.{PollMode}
+use Rattle.saa_word_steps.specs.declared.place.PollMode.TheVariants.{Tries, Awaits, Gives}
 use Rattle.saa_word_steps.specs.declared.place.Stage.{Stage}
 use Rattle.saa_word_steps.specs.declared.place.Stage.TheVariants.{Quiet, ReleaseLoad, BackLoad, ShowLoad, ShowStore, Take}
 use Rattle.saa_word_steps.specs.declared.call.Answer.TheVariants.{Unit as Ended}
 use Rattle.saa_word_steps.specs.declared.place.Next.{Next}
 use Rattle.saa_word_steps.specs.declared.place.Next.TheVariants.{Going, Done}
 use Rattle.saa_word_steps.specs.Needs.{Needs, AreNeeds}
-use Rattle.saa_word_steps.specs.declared.event.Event.TheVariants.{Showed, Took, NotReady}
+use Rattle.saa_word_steps.specs.declared.event.Event.TheVariants.{Showed, AnswerTaken, NotReady}
 use Rattle.saa_word_steps.specs.AbstractState.{AbstractState, is_empty, is_in, held_by, with_answer}
 use Rattle.saa_word_steps.specs.Steps.{IsRanged, shown_all, going, taken_answer}
-use Rattle.saa_word_proofs.specs.Refinement.{joins_line, newest, is_holder, takes_back, gives_up, IsReturning, IsAlone, IsOwn, IsShowing, IsHolding, AreAnswers, Refines}
+use Rattle.saa_word_proofs.specs.Refinement.{joins_line, newest, is_holder, takes_back, gives_up, IsReturning, IsLocallyTrue, IsOwn, IsShowing, IsHolding, AreAnswers, Invariant}
 use Rattle.saa_word_proofs.specs.Rows.{line_of, updated}
 use Rattle.saa_word_proofs.specs.Registering.{is_slot}
 use Rattle.saa_word_proofs.specs.StepRefinement.{StepRefines, place_after, taken_events}
@@ -57,13 +57,13 @@ walk-holding needs words me held line cut current next value seen h =
 
 -- The newest answer that is owed is shown
 pub step-ShowStore : (needs : Needs) → AreNeeds needs → needs.top < 2 ^ count_bits → (places : ℕ) (row : ℕ → ℕ) (standing : ℕ → Place) (state : AbstractState) (me : ℕ)
-    → places < 65536 → (s : Refines needs places row standing state)
-    → (current next value : ℕ) (afterwards : Afterwards) → (standing me).stage ≡ ShowStore current next value afterwards
+    → places < 65536 → (s : Invariant needs places row standing state)
+    → (current next value : ℕ) (afterwards : AfterShow) → (standing me).stage ≡ ShowStore current next value afterwards
     → StepRefines needs places row standing state me (ShowStore current next value afterwards)
 step-ShowStore needs lawful wide places row standing state me room s current next value afterwards at =
     let stage : Stage = ShowStore current next value afterwards in
     let alone : IsReturning (standing me).registration (standing me).back =
-    subst (λ stage. IsAlone needs (standing me).registration (standing me).back stage) at (s.stages.alone me) in
+    subst (λ stage. IsLocallyTrue needs (standing me).registration (standing me).back stage) at (s.stages.alone me) in
     let apart : takes_back (standing me).back ≡ true → is_in me state.line ≡ false = apart-at needs places row standing state me s stage at in
     let ranged : IsRanged needs stage = subst (λ stage. IsRanged needs stage) at (s.stages.ranged me) in
     let showing : IsShowing (s.owed me) (s.answer_value me) stage = subst (λ stage. IsShowing (s.owed me) (s.answer_value me) stage) at (s.stages.showing me) in
@@ -82,13 +82,13 @@ step-ShowStore needs lawful wide places row standing state me room s current nex
     let nothing : next == 0 ≡ true → before ≡ [] = λ done. empty-nil before (sym empty ∙ done) in
     let place : Place = place_after (standing me) (if next == 0 then shown_all (standing me) afterwards else going (standing me) (ShowLoad next value afterwards)) in
     let then_stands : (goes : Stage) → place ≡ record (standing me) { stage = goes } → joins_line goes ≡ false → IsRanged needs goes
-    → IsAlone needs (standing me).registration (standing me).back goes → (gives_up (standing me).back goes ≡ true → is_in me state.line ≡ false)
+    → IsLocallyTrue needs (standing me).registration (standing me).back goes → (gives_up (standing me).back goes ≡ true → is_in me state.line ≡ false)
     → ((word : LineWord) → IsOwn word goes) → IsShowing before (s.answer_value me) goes → is_holder goes ≡ is_holder stage
     → (s.holder ≡ me + 1 → IsHolding needs (line_of row) me state.count state.line s.cut goes)
-    → Refines needs places (updated row (places + current) (answer_number (Some value))) (updated standing me place) last =
+    → Invariant needs places (updated row (places + current) (answer_number (Some value))) (updated standing me place) last =
     λ goes is goes_never goes_ranged goes_alone goes_apart goes_own goes_showing goes_holder goes_holding.
-    subst (λ (r : ℕ → ℕ). Refines needs places r (updated standing me place) last) (sym row_is)
-    (subst (λ (p : Place). Refines needs places (updated row (places + (asker.0 + 1)) (answer_number (Some (s.answer_value me)))) (updated standing me p) last) (sym is)
+    subst (λ (r : ℕ → ℕ). Invariant needs places r (updated standing me place) last) (sym row_is)
+    (subst (λ (p : Place). Invariant needs places (updated row (places + (asker.0 + 1)) (answer_number (Some (s.answer_value me)))) (updated standing me p) last) (sym is)
     (shown needs places row standing state me s before asker showing.2 goes goes_never goes_ranged goes_alone goes_apart goes_own goes_showing
     (goes_holder ∙ ap is_holder (sym at)) goes_holding)) in
     record {
@@ -108,22 +108,22 @@ step-ShowStore needs lawful wide places row standing state me room s current nex
           ];
     }
   where
-    at-end : (needs : Needs) (places : ℕ) (row : ℕ → ℕ) (standing : ℕ → Place) (state : AbstractState) (me : ℕ) (s : Refines needs places row standing state)
-        (current next value : ℕ) (afterwards : Afterwards) (before : List (ℕ × ℕ)) (last : AbstractState) → next == 0 ≡ true → before ≡ []
+    at-end : (needs : Needs) (places : ℕ) (row : ℕ → ℕ) (standing : ℕ → Place) (state : AbstractState) (me : ℕ) (s : Invariant needs places row standing state)
+        (current next value : ℕ) (afterwards : AfterShow) (before : List (ℕ × ℕ)) (last : AbstractState) → next == 0 ≡ true → before ≡ []
         → IsRanged needs (ShowStore current next value afterwards) → IsReturning (standing me).registration (standing me).back
         → (takes_back (standing me).back ≡ true → is_in me state.line ≡ false)
         → (s.holder ≡ me + 1 → IsHolding needs (line_of row) me state.count state.line s.cut (ShowStore current next value afterwards))
         → ((goes : Stage) → place_after (standing me) (if next == 0 then shown_all (standing me) afterwards else going (standing me) (ShowLoad next value afterwards))
         ≡ record (standing me) { stage = goes } → joins_line goes ≡ false → IsRanged needs goes
-        → IsAlone needs (standing me).registration (standing me).back goes → (gives_up (standing me).back goes ≡ true → is_in me state.line ≡ false)
+        → IsLocallyTrue needs (standing me).registration (standing me).back goes → (gives_up (standing me).back goes ≡ true → is_in me state.line ≡ false)
         → ((word : LineWord) → IsOwn word goes) → IsShowing before (s.answer_value me) goes → is_holder goes ≡ is_holder (ShowStore current next value afterwards)
         → (s.holder ≡ me + 1 → IsHolding needs (line_of row) me state.count state.line s.cut goes)
-        → Refines needs places (updated row (places + current) (answer_number (Some value)))
+        → Invariant needs places (updated row (places + current) (answer_number (Some value)))
         (updated standing me (place_after (standing me) (if next == 0 then shown_all (standing me) afterwards else going (standing me) (ShowLoad next value afterwards)))) last)
-        → Refines needs places (updated row (places + current) (answer_number (Some value)))
+        → Invariant needs places (updated row (places + current) (answer_number (Some value)))
         (updated standing me (place_after (standing me) (if next == 0 then shown_all (standing me) afterwards else going (standing me) (ShowLoad next value afterwards)))) last
     at-end needs places row standing state me s current next value Ends before last done nothing ranged alone apart holding goes =
-        let back : Back = (standing me).back in
+        let back : AfterWalk = (standing me).back in
         goes (end_stage back) (rw done (ended (standing me) back)) (ended-joins back) (ended-ranged needs back) (ended-alone needs (standing me).registration back alone)
         (λ gives. apart (sym (ended-apart back) ∙ gives)) (λ word. ended-own word back) (ended-showing before (s.answer_value me) back nothing) (ended-holder back)
         (λ it. absurd (holding it))
@@ -139,7 +139,7 @@ answer-again (Some value) small =
     ap answer_of kept ∙ answer-read (Some value) small
 
 -- a place that takes its answer is held no more
-held-taken : (needs : Needs) (places : ℕ) (row : ℕ → ℕ) (standing : ℕ → Place) (state : AbstractState) (s : Refines needs places row standing state)
+held-taken : (needs : Needs) (places : ℕ) (row : ℕ → ℕ) (standing : ℕ → Place) (state : AbstractState) (s : Invariant needs places row standing state)
     (me value : ℕ) (place : Place) → is_slot (standing me).registration ≡ true → state.shown me ≡ Some value → is_slot place.registration ≡ false → (other : ℕ)
     → held_by other (record state { shown = with_answer me None state.shown }) ≡ one_if (is_slot (updated standing me place other).registration)
 held-taken needs places row standing state s me value place slot is idle =
@@ -149,7 +149,7 @@ held-taken needs places row standing state s me value place slot is idle =
     (λ other apart. rw (number_other other me apart) (s.seats.held other))
 
 -- the answer words once an answer is taken
-answers-taken : (needs : Needs) (places : ℕ) (row : ℕ → ℕ) (standing : ℕ → Place) (state : AbstractState) (s : Refines needs places row standing state) (me : ℕ)
+answers-taken : (needs : Needs) (places : ℕ) (row : ℕ → ℕ) (standing : ℕ → Place) (state : AbstractState) (s : Invariant needs places row standing state) (me : ℕ)
     → AreAnswers places (updated row (places + (me + 1)) 0) (with_answer me None state.shown)
 answers-taken needs places row standing state s me = record {
   words = λ place inside.
@@ -171,12 +171,12 @@ answers-taken needs places row standing state s me = record {
 
 -- An answer is taken, whatever the place does next
 taken : (needs : Needs) (places : ℕ) (row : ℕ → ℕ) (standing : ℕ → Place) (state : AbstractState) (me value : ℕ)
-    → me < places → (s : Refines needs places row standing state) → is_slot (standing me).registration ≡ true → is_holder (standing me).stage ≡ false
+    → me < places → (s : Invariant needs places row standing state) → is_slot (standing me).registration ≡ true → is_holder (standing me).stage ≡ false
     → state.shown me ≡ Some value
-    → (place : Place) → is_slot place.registration ≡ false → IsRanged needs place.stage → IsAlone needs place.registration place.back place.stage
+    → (place : Place) → is_slot place.registration ≡ false → IsRanged needs place.stage → IsLocallyTrue needs place.registration place.back place.stage
     → gives_up place.back place.stage ≡ false → ((word : LineWord) → IsOwn word place.stage) → IsShowing (s.owed me) (s.answer_value me) place.stage
     → is_holder place.stage ≡ false
-    → Refines needs places (updated row (places + me + 1) 0) (updated standing me place) (record state { shown = with_answer me None state.shown })
+    → Invariant needs places (updated row (places + me + 1) 0) (updated standing me place) (record state { shown = with_answer me None state.shown })
 taken needs places row standing state me value here s slot none is place idle ranged alone apart own showing free =
     let some : 0 < me + 1 = omega arith in
     let index : places + (me + 1) ≡ places + me + 1 = omega arith in
@@ -185,7 +185,7 @@ taken needs places row standing state me value here s slot none is place idle ra
     λ other inside.
     let same = line-answer row places (me + 1) 0 other inside some in
     (ap (λ (w : LineWord). w.request) same, ap (λ (w : LineWord). w.older) same) in
-    subst (λ (n : ℕ). Refines needs places (updated row n 0) (updated standing me place) (record state { shown = with_answer me None state.shown })) index (record {
+    subst (λ (n : ℕ). Invariant needs places (updated row n 0) (updated standing me place) (record state { shown = with_answer me None state.shown })) index (record {
       holder = s.holder;
       cut = s.cut;
       uncut = s.uncut;
@@ -233,26 +233,26 @@ either P place true one other p q = p
 either P place false one other p q = q
 
 -- who takes its answer is registered in the line
-take-slot : (needs : Needs) (registration : Registration) (back : Back) (taking : Taking) → IsAlone needs registration back (Take taking)
+take-slot : (needs : Needs) (registration : Registration) (back : AfterWalk) (taking : PollMode) → IsLocallyTrue needs registration back (Take taking)
     → is_slot registration ≡ true
 take-slot needs registration back Tries alone = alone
 take-slot needs registration back Awaits alone = alone
 take-slot needs registration back (Gives request) alone = ap is_slot alone
 
 -- an answer that isn't there yet leaves the row, and a place that stays as it is leaves the whole
-stays : (needs : Needs) (places : ℕ) (row : ℕ → ℕ) (standing : ℕ → Place) (state : AbstractState) (me at : ℕ) → Refines needs places row standing state → row at ≡ 0
-    → Refines needs places (updated row at 0) (updated standing me (standing me)) state
+stays : (needs : Needs) (places : ℕ) (row : ℕ → ℕ) (standing : ℕ → Place) (state : AbstractState) (me at : ℕ) → Invariant needs places row standing state → row at ≡ 0
+    → Invariant needs places (updated row at 0) (updated standing me (standing me)) state
 stays needs places row standing state me at s number =
-    subst (λ (r : ℕ → ℕ). Refines needs places r (updated standing me (standing me)) state) (sym (updated-same row at 0 (sym number)))
-    (subst (λ (f : ℕ → Place). Refines needs places row f state) (sym (updated-same standing me (standing me) refl)) s)
+    subst (λ (r : ℕ → ℕ). Invariant needs places r (updated standing me (standing me)) state) (sym (updated-same row at 0 (sym number)))
+    (subst (λ (f : ℕ → Place). Invariant needs places row f state) (sym (updated-same standing me (standing me) refl)) s)
 
 -- the step of a place that takes its answer, by the answer that it is shown
 takes : (needs : Needs) (places : ℕ) (row : ℕ → ℕ) (standing : ℕ → Place) (state : AbstractState) (me : ℕ)
-    → me < places → (s : Refines needs places row standing state) → is_slot (standing me).registration ≡ true → is_holder (standing me).stage ≡ false
-    → s.owed me ≡ [] → (taking : Taking) (answer : Option ℕ) → state.shown me ≡ answer → row (places + me + 1) ≡ answer_number answer
+    → me < places → (s : Invariant needs places row standing state) → is_slot (standing me).registration ≡ true → is_holder (standing me).stage ≡ false
+    → s.owed me ≡ [] → (taking : PollMode) (answer : Option ℕ) → state.shown me ≡ answer → row (places + me + 1) ≡ answer_number answer
     → Outcome needs places (updated row (places + me + 1) 0) standing state me (taken_answer needs (standing me) taking answer) (taken_events taking answer)
 takes needs places row standing state me here s slot none nothing Tries (Some value) is number = record {
-  events = Took value ∷ [];
+  events = AnswerTaken value ∷ [];
   last = record state { shown = with_answer me None state.shown };
   run = (is, refl);
   names = refl;
@@ -261,7 +261,7 @@ takes needs places row standing state me here s slot none nothing Tries (Some va
       refl tt tt refl (λ word. tt) nothing refl;
 }
 takes needs places row standing state me here s slot none nothing Awaits (Some value) is number = record {
-  events = Took value ∷ [];
+  events = AnswerTaken value ∷ [];
   last = record state { shown = with_answer me None state.shown };
   run = (is, refl);
   names = refl;
@@ -270,15 +270,15 @@ takes needs places row standing state me here s slot none nothing Awaits (Some v
       refl tt tt refl (λ word. tt) nothing refl;
 }
 takes needs places row standing state me here s slot none nothing (Gives request) (Some value) is number = record {
-  events = Took value ∷ [];
+  events = AnswerTaken value ∷ [];
   last = record state { shown = with_answer me None state.shown };
   run = (is, refl);
   names = refl;
   calm = λ semaphore. refl;
   stands =
-      let drops : Place = record (standing me) { registration = Idle; stage = ReleaseLoad (Asked request); back = EndsCall } in
+      let drops : Place = record (standing me) { registration = Idle; stage = ReleaseLoad (Requested request); back = EndsCall } in
       let quiet : Place = record (standing me) { registration = Idle; stage = Quiet } in
-      either (λ (p : Place). Refines needs places (updated row (places + me + 1) 0) (updated standing me p) (record state { shown = with_answer me None state.shown }))
+      either (λ (p : Place). Invariant needs places (updated row (places + me + 1) 0) (updated standing me p) (record state { shown = with_answer me None state.shown }))
       (standing me) (value == granted_value && not (needs.takes request == 0)) (Going drops) (Done quiet Ended)
       (taken needs places row standing state me value here s slot none is drops refl tt refl refl (λ word. tt) nothing refl)
       (taken needs places row standing state me value here s slot none is quiet refl tt tt refl (λ word. tt) nothing refl);
@@ -295,7 +295,7 @@ takes needs places row standing state me here s slot none nothing Tries None is 
   calm = λ semaphore. refl;
   stands =
       let quiet : Place = record (standing me) { stage = Quiet } in
-      subst (λ (r : ℕ → ℕ). Refines needs places r (updated standing me quiet) state) (sym (updated-same row (places + me + 1) 0 (sym number)))
+      subst (λ (r : ℕ → ℕ). Invariant needs places r (updated standing me quiet) state) (sym (updated-same row (places + me + 1) 0 (sym number)))
       (moved needs places row standing state me s quiet (λ out. refl) refl tt tt (λ gives. absurd (cc)) tt nothing (sym none)
       (λ it. absurd (not-holder needs places row standing state me s none it)));
 }
@@ -318,11 +318,11 @@ takes needs places row standing state me here s slot none nothing (Gives request
 
 -- A place takes its answer, or finds none
 pub step-Take : (needs : Needs) → AreNeeds needs → needs.top < 2 ^ count_bits → (places : ℕ) (row : ℕ → ℕ) (standing : ℕ → Place) (state : AbstractState) (me : ℕ)
-    → places < 65536 → me < places → (s : Refines needs places row standing state)
-    → (taking : Taking) → (standing me).stage ≡ Take taking → StepRefines needs places row standing state me (Take taking)
+    → places < 65536 → me < places → (s : Invariant needs places row standing state)
+    → (taking : PollMode) → (standing me).stage ≡ Take taking → StepRefines needs places row standing state me (Take taking)
 step-Take needs lawful wide places row standing state me room here s taking at =
-    let alone : IsAlone needs (standing me).registration (standing me).back (Take taking) =
-    subst (λ stage. IsAlone needs (standing me).registration (standing me).back stage) at (s.stages.alone me) in
+    let alone : IsLocallyTrue needs (standing me).registration (standing me).back (Take taking) =
+    subst (λ stage. IsLocallyTrue needs (standing me).registration (standing me).back stage) at (s.stages.alone me) in
     let slot : is_slot (standing me).registration ≡ true = take-slot needs (standing me).registration (standing me).back taking alone in
     let nothing : s.owed me ≡ [] = subst (λ stage. IsShowing (s.owed me) (s.answer_value me) stage) at (s.stages.showing me) in
     let number : row (places + me + 1) ≡ answer_number (state.shown me) = s.answers.words me here in
@@ -338,7 +338,7 @@ step-Take needs lawful wide places row standing state me room here s taking at =
       inside = omega (arith, here);
       stands = subst
           (λ (a : Option ℕ).
-          Refines needs places (updated row (places + me + 1) 0)
+          Invariant needs places (updated row (places + me + 1) 0)
           (updated standing me (place_after (standing me) (taken_answer needs (standing me) taking a))) out.last)
           (sym answer_is) out.stands;
     }
