@@ -21,13 +21,19 @@ mod lock_free;
 #[cfg(test)]
 mod pager;
 #[cfg(test)]
+mod phases;
+#[cfg(test)]
 mod pool;
+#[cfg(test)]
+mod queue;
 #[cfg(test)]
 mod seats;
 #[cfg(test)]
 mod semaphore;
 #[cfg(test)]
 mod spawned;
+#[cfg(test)]
+mod stopping;
 #[cfg(test)]
 mod tasks;
 #[cfg(test)]
