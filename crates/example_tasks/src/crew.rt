@@ -9,7 +9,7 @@ use std::random::RandomSource;
 use std::sync::Wait;
 use std::thread::{self, Threads};
 
-/// Who has tasks of the type `F`, and attends to them while threads poll them.
+/// A foreman has tasks of the type `F`, and attends to them while threads poll them.
 pub trait Foreman<R, F: Future<Output = ()>> {
     /// Hands out all tasks; whether they were taken.
     fn hand_out(&self, tasks: &TaskSet<F>) -> bool;

@@ -694,7 +694,7 @@ pub arrivals_of_a_latch_are_counted : BarrierTells 3 usual_room (
 unfolding settled
 arrivals_of_a_latch_are_counted = refl
 
--- At size 0 nobody arrives or leaves; who waits there passes once a task joins. No more than 63 join.
+-- At size 0 nobody arrives or leaves; a waiter there passes once a task joins. No more than 63 join.
 pub a_barrier_of_size_0_may_grow : BarrierTells 0 usual_room (
     (Call LeaveOne, Answered (BarrierBool false))
     ∷ (Call DoArrive, Answered (BarrierBool false))

@@ -21,9 +21,7 @@ mod printed;
 #[cfg(test)]
 mod progress;
 #[cfg(test)]
-mod semaphore;
-#[cfg(test)]
-mod stories;
+mod told;
 pub mod widths;
 #[cfg(test)]
 mod words;

@@ -1,170 +1,17 @@
-//! The threaded gate beside its core, over every list of moves, and tasks that sleep at it and are woken together.
+//! Tasks that sleep at the threaded gate and are woken together.
 
-use saa_core::gate::{GateAnswer, GateCall, GateCore};
-use saa_core::ticket::Full;
+use saa_core::gate::GateCore;
 use saa_sync::gate::{Error, Gate, State};
 use saa_sync::pager::Pager;
 use saa_sync::spin_policy::NONE;
 use saa_sync::testing::{Counted, form_of};
-use std::alloc::{AllocError, AllocGlobal, Global};
+use std::alloc::{AllocError, AllocGlobal};
 use std::sync::Wait;
 use std::sync::atomic::{AtomicU64, Ordering};
 use std::thread;
 use std::thread::{Threads, yield_now};
 use test_asserts::same;
 use test_support::sleepers::By;
-use test_support::twins;
-use test_support::twins::{Form, Trial, TrialOf, Way};
-
-// A gate, for the trials.
-#[derive(Drop)]
-struct Tried<R: Wait + Drop> {
-    gate: Gate<R>,
-}
-
-// A gate of size 0 is controlled, one of size 1 is sealed, and any other is open.
-impl<R: Wait + Drop + Copy> Form for Tried<R> {
-    type Threaded = Gate<R>;
-
-    type Core = GateCore;
-
-    type Runtime = R;
-
-    fn make(rt: R, alloc: Global, size: usize, room: u16) -> Result<Self, AllocError> {
-        let gate = Gate::new(rt, alloc, room)?;
-        match size {
-            0 => {}
-            1 => {
-                let _before = gate.seal();
-            }
-            _ => {
-                let _before = gate.open();
-            }
-        }
-        Ok(Tried { gate })
-    }
-
-    fn make_core(alloc: Global, size: usize, room: u16) -> Result<GateCore, AllocError> {
-        let mut core = GateCore::new(alloc, room)?;
-        match size {
-            0 => {}
-            1 => {
-                let _before = core.seal();
-            }
-            _ => {
-                let _before = core.open();
-            }
-        }
-        Ok(core)
-    }
-
-    fn is_notified(&self, slot: u16) -> bool {
-        self.gate.counts().is_notified(slot)
-    }
-
-    fn answers(&self, call: GateCall, _is_short: bool, wanted: GateAnswer) -> bool {
-        let told = match call {
-            GateCall::State => GateAnswer::State(self.gate.state(Ordering::SeqCst)),
-            GateCall::Reset => GateAnswer::Reset(self.gate.reset()),
-            GateCall::Permit => GateAnswer::Answered(self.gate.permit()),
-            GateCall::PermitMany(n) => GateAnswer::Answered(self.gate.permit_many(n)),
-            GateCall::Reject => GateAnswer::Answered(self.gate.reject()),
-            GateCall::Open => {
-                let (before, count) = self.gate.open();
-                GateAnswer::Moved(before, count)
-            }
-            GateCall::Seal => {
-                let (before, count) = self.gate.seal();
-                GateAnswer::Moved(before, count)
-            }
-        };
-        told == wanted
-    }
-
-    fn register<'s>(
-        &'s self,
-        pager: &mut Pager<'s, Gate<R>>,
-        _ask: (),
-        is_sync: bool,
-    ) -> Result<bool, Full> {
-        self.gate.register_pager(pager, is_sync)
-    }
-
-    fn acquire(
-        &self,
-        _ask: (),
-        way: Way,
-        runs: &AtomicU64,
-    ) -> Result<Option<Result<State, Error>>, Full> {
-        let count_run = || {
-            runs.fetch_add(1, Ordering::SeqCst);
-        };
-        let answer = match way {
-            Way::Plain | Way::Short => self.gate.enter_sync()?,
-            Way::With | Way::ShortWith => self.gate.enter_sync_with(count_run)?,
-        };
-        Ok(Some(answer))
-    }
-
-    fn is_same_value(one: Result<State, Error>, other: Result<State, Error>) -> bool {
-        one == other
-    }
-}
-
-const EVERY_MOVE: Trial<'static, GateCore> = TrialOf {
-    calls: &[
-        GateCall::State,
-        GateCall::Reset,
-        GateCall::Permit,
-        GateCall::PermitMany(1),
-        GateCall::Reject,
-        GateCall::Open,
-        GateCall::Seal,
-    ],
-    short: &[],
-    reads: &[GateCall::State],
-    asks: &[()],
-    waits: &[((), Way::Plain), ((), Way::With)],
-    sizes: &[0, 1, 2],
-    length: 0,
-    wanted: (23, 9),
-};
-
-static TRIALS: [Trial<'static, GateCore>; 5] = [
-    EVERY_MOVE,
-    TrialOf {
-        length: 1,
-        wanted: (23, 9 * 23),
-        ..EVERY_MOVE
-    },
-    TrialOf {
-        length: 2,
-        wanted: (23, 9 * 23 * 23),
-        ..EVERY_MOVE
-    },
-    TrialOf {
-        length: 3,
-        wanted: (23, 9 * 23 * 23 * 23),
-        ..EVERY_MOVE
-    },
-    // From a controlled gate.
-    TrialOf {
-        sizes: &[0],
-        length: 4,
-        wanted: (23, 3 * 23 * 23 * 23 * 23),
-        ..EVERY_MOVE
-    },
-];
-
-// The first of these trials that tells otherwise.
-fn first_other<R: Wait + AllocGlobal>(rt: &R) -> Result<Option<(usize, (usize, u64))>, AllocError> {
-    twins::first_other::<Tried<&R>>(rt, rt.alloc(), &TRIALS)
-}
-
-#[test]
-fn every_list_agrees(rt: HostRuntime) {
-    same!(rt; first_other(&rt).ok(), Some(None));
-}
 
 // How all waiters of a gate are answered.
 #[derive(Clone, Copy)]

@@ -1,10 +1,10 @@
-//! The threaded semaphore beside its core, over every list of moves, and tasks that sleep at it and are woken.
+//! Tasks that sleep at the threaded semaphore and are woken.
 
-use saa_core::semaphore::{SemaphoreAnswer, SemaphoreCall, SemaphoreCore};
-use saa_core::ticket::{Full, Ticket};
+use saa_core::semaphore::SemaphoreCore;
+use saa_core::ticket::Ticket;
 use saa_sync::Waitable;
-use saa_sync::pager::{Error, Pager};
-use saa_sync::semaphore::{AcquireError, Semaphore};
+use saa_sync::pager::Pager;
+use saa_sync::semaphore::Semaphore;
 use saa_sync::spin_policy::{NONE, SpinPolicy};
 use saa_sync::testing::{Counted, WAITER, form_of};
 use std::alloc::{AllocError, AllocGlobal, Global};
@@ -14,21 +14,14 @@ use std::sync::atomic::{AtomicU64, Ordering};
 use std::thread;
 use std::thread::Threads;
 use test_asserts::same;
+use test_support::sleepers;
 use test_support::sleepers::{By, Case, End, Made, Place, Sleepers, Wakes};
-use test_support::twins::{Form, Trial, TrialOf, Way};
-use test_support::{sleepers, twins};
 
-// A semaphore, for the trials.
+// A semaphore, for the sleepers.
 #[derive(Drop)]
 struct Tried<R: Wait + Drop> {
     semaphore: Semaphore<R>,
 }
-
-// A call that finds the room full looks before that, and there are many of these in all lists of moves.
-const LITTLE: SpinPolicy = SpinPolicy {
-    looks: 2,
-    yields: 0,
-};
 
 /// A semaphore whose waiters have this patience.
 pub fn with_patience<R: Wait + Drop>(
@@ -40,87 +33,6 @@ pub fn with_patience<R: Wait + Drop>(
 ) -> Result<Semaphore<R>, AllocError> {
     let core = SemaphoreCore::with_permits(alloc, permits, room)?;
     form_of(rt, alloc, core, room, NONE, patience)
-}
-
-impl<R: Wait + Drop + Copy> Form for Tried<R> {
-    type Threaded = Semaphore<R>;
-
-    type Core = SemaphoreCore;
-
-    type Runtime = R;
-
-    fn make(rt: R, alloc: Global, size: usize, room: u16) -> Result<Self, AllocError> {
-        let semaphore = Semaphore::with_spin_policy(rt, alloc, size, room, LITTLE)?;
-        Ok(Tried { semaphore })
-    }
-
-    fn make_core(alloc: Global, size: usize, room: u16) -> Result<SemaphoreCore, AllocError> {
-        SemaphoreCore::with_permits(alloc, size, room)
-    }
-
-    fn is_notified(&self, slot: u16) -> bool {
-        self.semaphore.counts().is_notified(slot)
-    }
-
-    fn answers(&self, call: SemaphoreCall, is_short: bool, wanted: SemaphoreAnswer) -> bool {
-        let mo = Ordering::SeqCst;
-        let told = match call {
-            SemaphoreCall::TryAcquireMany(count) => SemaphoreAnswer::Bool(if is_short {
-                self.semaphore.try_acquire()
-            } else {
-                self.semaphore.try_acquire_many(count)
-            }),
-            SemaphoreCall::ReleaseMany(count) => SemaphoreAnswer::Bool(if is_short {
-                self.semaphore.release()
-            } else {
-                self.semaphore.release_many(count)
-            }),
-            SemaphoreCall::AvailablePermits => SemaphoreAnswer::Number(
-                self.semaphore.available_permits(mo),
-            ),
-            SemaphoreCall::IsOpen => SemaphoreAnswer::Bool(self.semaphore.is_open(mo)),
-            SemaphoreCall::IsClosed => SemaphoreAnswer::Bool(self.semaphore.is_closed(mo)),
-            SemaphoreCall::Shut => SemaphoreAnswer::Bool(self.semaphore.shut()),
-            SemaphoreCall::IsShut => SemaphoreAnswer::Bool(self.semaphore.is_shut()),
-        };
-        told == wanted
-    }
-
-    fn register<'s>(
-        &'s self,
-        pager: &mut Pager<'s, Semaphore<R>>,
-        count: usize,
-        is_sync: bool,
-    ) -> Result<bool, Full> {
-        self.semaphore.register_pager(pager, count, is_sync)
-    }
-
-    fn acquire(
-        &self,
-        count: usize,
-        way: Way,
-        runs: &AtomicU64,
-    ) -> Result<Option<Result<(), Error>>, Full> {
-        let count_run = || {
-            runs.fetch_add(1, Ordering::SeqCst);
-        };
-        let is_granted = match way {
-            Way::Plain => self.semaphore.acquire_many_sync(count),
-            Way::With => self.semaphore.acquire_many_sync_with(count, count_run),
-            Way::Short => self.semaphore.acquire_sync().map(|()| true),
-            Way::ShortWith => self.semaphore.acquire_sync_with(count_run).map(|()| true),
-        };
-        match is_granted {
-            Ok(true) => Ok(Some(Ok(()))),
-            Ok(false) => Ok(None),
-            Err(AcquireError::Closed) => Ok(Some(Err(Error::Closed))),
-            Err(AcquireError::Full) => Err(Full),
-        }
-    }
-
-    fn is_same_value(one: Result<(), Error>, other: Result<(), Error>) -> bool {
-        one == other
-    }
 }
 
 // What is asked where: one permit ahead, none behind, and all as the wall.
@@ -190,190 +102,6 @@ impl<R: Wait + Drop + Sync> Sleepers for Tried<R> {
         let counts = self.semaphore.counts();
         (counts.parked(), counts.notified())
     }
-}
-
-// A try and a release of each of some counts, and the rest.
-const EVERY_MOVE: Trial<'static, SemaphoreCore> = TrialOf {
-    calls: &[
-        SemaphoreCall::TryAcquireMany(0),
-        SemaphoreCall::ReleaseMany(0),
-        SemaphoreCall::TryAcquireMany(1),
-        SemaphoreCall::ReleaseMany(1),
-        SemaphoreCall::TryAcquireMany(2),
-        SemaphoreCall::ReleaseMany(2),
-        SemaphoreCall::TryAcquireMany(62),
-        SemaphoreCall::ReleaseMany(62),
-        SemaphoreCall::TryAcquireMany(63),
-        SemaphoreCall::ReleaseMany(63),
-        SemaphoreCall::TryAcquireMany(64),
-        SemaphoreCall::ReleaseMany(64),
-        SemaphoreCall::TryAcquireMany(300),
-        SemaphoreCall::ReleaseMany(300),
-        SemaphoreCall::AvailablePermits,
-        SemaphoreCall::IsOpen,
-        SemaphoreCall::IsClosed,
-    ],
-    short: &[
-        SemaphoreCall::TryAcquireMany(1),
-        SemaphoreCall::ReleaseMany(1),
-    ],
-    reads: &[
-        SemaphoreCall::AvailablePermits,
-        SemaphoreCall::IsOpen,
-        SemaphoreCall::IsClosed,
-    ],
-    asks: &[0, 1, 2, 62, 63, 64, 300],
-    waits: &[
-        (1, Way::Short),
-        (1, Way::ShortWith),
-        (0, Way::Plain),
-        (1, Way::Plain),
-        (62, Way::Plain),
-        (63, Way::Plain),
-        (64, Way::Plain),
-        (1, Way::With),
-        (63, Way::With),
-        (300, Way::With),
-    ],
-    sizes: &[0, 1, 63, 64, 300, usize::MAX],
-    length: 0,
-    wanted: (67, 18),
-};
-
-// The same of few counts: many are available, or none.
-const MANY: Trial<'static, SemaphoreCore> = TrialOf {
-    calls: &[
-        SemaphoreCall::TryAcquireMany(0),
-        SemaphoreCall::ReleaseMany(0),
-        SemaphoreCall::TryAcquireMany(1),
-        SemaphoreCall::ReleaseMany(1),
-        SemaphoreCall::TryAcquireMany(63),
-        SemaphoreCall::ReleaseMany(63),
-        SemaphoreCall::AvailablePermits,
-        SemaphoreCall::IsOpen,
-        SemaphoreCall::IsClosed,
-    ],
-    asks: &[0, 1, 63],
-    waits: &[(1, Way::Plain)],
-    sizes: &[63],
-    length: 4,
-    wanted: (34, 3 * 34 * 34 * 34 * 34),
-    ..EVERY_MOVE
-};
-
-const FEW: Trial<'static, SemaphoreCore> = TrialOf {
-    calls: &[
-        SemaphoreCall::TryAcquireMany(0),
-        SemaphoreCall::ReleaseMany(0),
-        SemaphoreCall::TryAcquireMany(1),
-        SemaphoreCall::ReleaseMany(1),
-        SemaphoreCall::TryAcquireMany(2),
-        SemaphoreCall::ReleaseMany(2),
-        SemaphoreCall::AvailablePermits,
-        SemaphoreCall::IsOpen,
-        SemaphoreCall::IsClosed,
-    ],
-    asks: &[0, 1, 2],
-    sizes: &[0],
-    ..MANY
-};
-
-// Lists in which it is shut, from none, one and all.
-const SHUT: Trial<'static, SemaphoreCore> = TrialOf {
-    calls: &[
-        SemaphoreCall::TryAcquireMany(1),
-        SemaphoreCall::ReleaseMany(1),
-        SemaphoreCall::AvailablePermits,
-        SemaphoreCall::IsOpen,
-        SemaphoreCall::IsClosed,
-        SemaphoreCall::Shut,
-        SemaphoreCall::IsShut,
-    ],
-    reads: &[
-        SemaphoreCall::AvailablePermits,
-        SemaphoreCall::IsOpen,
-        SemaphoreCall::IsShut,
-    ],
-    asks: &[0, 1],
-    waits: &[
-        (1, Way::Short),
-        (1, Way::ShortWith),
-        (1, Way::Plain),
-        (64, Way::With),
-    ],
-    sizes: &[0, 1, 63],
-    length: 3,
-    wanted: (31, 3 * 3 * 31 * 31 * 31),
-    ..EVERY_MOVE
-};
-
-// And longer ones of fewer moves.
-const SHUT_AMONG_FEW: Trial<'static, SemaphoreCore> = TrialOf {
-    calls: &[
-        SemaphoreCall::TryAcquireMany(1),
-        SemaphoreCall::ReleaseMany(1),
-        SemaphoreCall::Shut,
-    ],
-    asks: &[1],
-    waits: &[(1, Way::Plain)],
-    sizes: &[0, 1],
-    length: 4,
-    wanted: (20, 2 * 3 * 20 * 20 * 20 * 20),
-    ..SHUT
-};
-
-// From every size, and lists of three from all permits and from one.
-static SHORT_LISTS: [Trial<'static, SemaphoreCore>; 5] = [
-    EVERY_MOVE,
-    TrialOf {
-        length: 1,
-        wanted: (67, 18 * 67),
-        ..EVERY_MOVE
-    },
-    TrialOf {
-        length: 2,
-        wanted: (67, 18 * 67 * 67),
-        ..EVERY_MOVE
-    },
-    TrialOf {
-        sizes: &[63],
-        length: 3,
-        wanted: (67, 3 * 67 * 67 * 67),
-        ..EVERY_MOVE
-    },
-    TrialOf {
-        sizes: &[1],
-        length: 3,
-        wanted: (67, 3 * 67 * 67 * 67),
-        ..EVERY_MOVE
-    },
-];
-
-static LISTS_OF_FOUR: [Trial<'static, SemaphoreCore>; 2] = [MANY, FEW];
-
-static SHUT_LISTS: [Trial<'static, SemaphoreCore>; 2] = [SHUT, SHUT_AMONG_FEW];
-
-// The first of some trials that tells otherwise.
-fn first_other<R: Wait + AllocGlobal>(
-    rt: &R,
-    trials: &[Trial<'_, SemaphoreCore>],
-) -> Result<Option<(usize, (usize, u64))>, AllocError> {
-    twins::first_other::<Tried<&R>>(rt, rt.alloc(), trials)
-}
-
-#[test]
-fn short_lists_agree(rt: HostRuntime) {
-    same!(rt; first_other(&rt, &SHORT_LISTS).ok(), Some(None));
-}
-
-#[test]
-fn lists_of_four_agree(rt: HostRuntime) {
-    same!(rt; first_other(&rt, &LISTS_OF_FOUR).ok(), Some(None));
-}
-
-#[test]
-fn lists_with_a_shut_agree(rt: HostRuntime) {
-    same!(rt; first_other(&rt, &SHUT_LISTS).ok(), Some(None));
 }
 
 // A size is how many permits are available.

@@ -1,185 +1,41 @@
-//! A semaphore that is shut while tasks wait at it: each waiter is woken and answered so, in every way of waiting, and so is each later call.
+//! A semaphore that is shut while many sleep at it: all are woken, and told so. Each way of waiting is in the stories of `test_stories`.
 
-use crate::permits::left;
 use crate::semaphores::{NO_PATIENCE, with_patience};
 use futures::task::Poll;
 use futures::test::MockTask;
-use saa_sync::pager::{Error, Pager};
 use saa_sync::semaphore::{AcquireError, Semaphore};
 use saa_sync::testing::Counted;
 use std::alloc::AllocGlobal;
 use std::random::RandomSource;
 use std::sync::Wait;
-use std::sync::atomic::{AtomicBool, Ordering};
 use std::thread::{Threads, yield_now};
-use std::time::{Clock, Duration, Instant};
 use std::{io, thread};
 use test_asserts::same;
-
-// A way to wait for a permit in a thread.
-#[derive(Clone, Copy)]
-enum Way {
-    One,
-    OneWith,
-    Many,
-    ManyWith,
-    For,
-    Until,
-    ManyFor,
-    ManyUntil,
-    Permit,
-    PermitFor,
-    PermitUntil,
-    Pager,
-}
-
-// Longer than any test waits.
-const HOUR: u64 = 3_600;
-
-// Why a thread that waits so has no permit.
-fn wait<R: Wait + Clock + Drop>(
-    semaphore: &Semaphore<R>,
-    way: Way,
-    end: Instant,
-) -> Option<AcquireError> {
-    let hour = Duration::from_secs(HOUR);
-    match way {
-        Way::One => semaphore.acquire_sync().err(),
-        Way::OneWith => semaphore.acquire_sync_with(|| yield_now()).err(),
-        Way::Many => semaphore.acquire_many_sync(2).err(),
-        Way::ManyWith => semaphore.acquire_many_sync_with(2, || yield_now()).err(),
-        Way::For => semaphore.acquire_sync_for(hour).err(),
-        Way::Until => semaphore.acquire_sync_until(end).err(),
-        Way::ManyFor => semaphore.acquire_many_sync_for(2, hour).err(),
-        Way::ManyUntil => semaphore.acquire_many_sync_until(2, end).err(),
-        Way::Permit => semaphore.acquire_permit().err(),
-        Way::PermitFor => semaphore.acquire_permit_for(hour).err(),
-        Way::PermitUntil => semaphore.acquire_permit_until(end).err(),
-        Way::Pager => paged(semaphore),
-    }
-}
-
-// Why a pager that waits has no permit.
-fn paged<R: Wait + Drop>(semaphore: &Semaphore<R>) -> Option<AcquireError> {
-    let mut pager = Pager::new();
-    match semaphore.register_pager(&mut pager, 1, true) {
-        Ok(true) => {}
-        _ => return Some(AcquireError::Full),
-    }
-    match pager.poll_sync() {
-        Err(Error::Closed) => Some(AcquireError::Closed),
-        _ => None,
-    }
-}
-
-// Waits, and says then that it has ended.
-fn wait_to_the_end<R: Wait + Clock + Drop>(
-    semaphore: &Semaphore<R>,
-    way: Way,
-    end: Instant,
-    has_ended: &AtomicBool,
-) -> Option<AcquireError> {
-    let told = wait(semaphore, way, end);
-    has_ended.store(true, Ordering::SeqCst);
-    told
-}
-
-// Shuts the semaphore once so many are parked there; whether they were, and whether it wasn't shut before.
-fn shut_beside<H: Wait, R: Wait + Drop>(
-    rt: &H,
-    semaphore: &Semaphore<R>,
-    parked: usize,
-    has_ended: &AtomicBool,
-) -> (bool, bool) {
-    for _ in rt.forever() {
-        if semaphore.counts().parked() == parked || has_ended.load(Ordering::SeqCst) {
-            break;
-        }
-        yield_now();
-    }
-    let is_asleep = !has_ended.load(Ordering::SeqCst);
-    (is_asleep, semaphore.shut())
-}
-
-// What a thread that slept was told, whether it slept, what one more call of the same way is told, and how many sleep and are available then.
-type Ended = (
-    Option<AcquireError>,
-    (bool, bool),
-    Option<AcquireError>,
-    usize,
-    usize,
-);
-
-// One waits in this way at a semaphore of which one permit is available, and two are asked for, or none is.
-fn shut_at<R: Wait + Clock + Threads + AllocGlobal + Sync>(rt: &R, way: Way) -> io::Result<Ended> {
-    let permits = match way {
-        Way::Many | Way::ManyWith | Way::ManyFor | Way::ManyUntil => 1,
-        _ => 0,
-    };
-    let semaphore = with_patience(rt, rt.alloc(), permits, 1, NO_PATIENCE)?;
-    let now = Instant::now(rt)?;
-    let end = now.checked_add(Duration::from_secs(HOUR)).unwrap_or(now);
-    let has_ended = AtomicBool::new(false);
-    let (told, shut) = thread::join(
-        rt,
-        || wait_to_the_end(&semaphore, way, end, &has_ended),
-        || shut_beside(rt, &semaphore, 1, &has_ended),
-    );
-    let after = wait(&semaphore, way, end);
-    let asleep = semaphore.counts().parked();
-    let _released = semaphore.release_many(60);
-    Ok((told, shut, after, asleep, left(&semaphore)))
-}
-
-// Each way, and how many permits are available at the end.
-static WAYS: [(Way, usize); 12] = [
-    (Way::One, 60),
-    (Way::OneWith, 60),
-    (Way::Many, 61),
-    (Way::ManyWith, 61),
-    (Way::For, 60),
-    (Way::Until, 60),
-    (Way::ManyFor, 61),
-    (Way::ManyUntil, 61),
-    (Way::Permit, 60),
-    (Way::PermitFor, 60),
-    (Way::PermitUntil, 60),
-    (Way::Pager, 60),
-];
-
-// The first way that is told otherwise.
-fn first_other<R: Wait + Clock + Threads + AllocGlobal + Sync>(
-    rt: &R,
-) -> io::Result<Option<usize>> {
-    let closed = Some(AcquireError::Closed);
-    for (index, (way, available)) in WAYS.iter().enumerate() {
-        let told = shut_at(rt, *way)?;
-        if told != (closed, (true, true), closed, 0, *available) {
-            return Ok(Some(index));
-        }
-    }
-    Ok(None)
-}
-
-#[test]
-fn who_sleeps_is_told_of_the_shut(rt: HostRuntime) {
-    same!(rt; first_other(&rt).ok(), Some(None));
-}
 
 // How many threads sleep together.
 const CROWD: usize = 24;
 
-// How many of a crowd are told that the semaphore was shut, once all sleep.
-fn told_together<R: Wait + Clock + Threads + AllocGlobal + Sync>(rt: &R) -> io::Result<usize> {
+// Shuts the semaphore once all sleep.
+fn shut_beside<H: Wait, R: Wait + Drop>(rt: &H, semaphore: &Semaphore<R>) {
+    for _ in rt.forever() {
+        if semaphore.counts().parked() == CROWD {
+            break;
+        }
+        yield_now();
+    }
+    let _shut = semaphore.shut();
+}
+
+// How many of a crowd are told that the semaphore was shut.
+fn told_together<R: Wait + Threads + AllocGlobal + Sync>(rt: &R) -> io::Result<usize> {
     let semaphore = with_patience(rt, rt.alloc(), 0, 24, NO_PATIENCE)?;
-    let has_ended = AtomicBool::new(false);
     let told = thread::map_indices(
         rt,
         rt.alloc(),
         CROWD + 1,
         &|index| {
             if index == CROWD {
-                let _shut = shut_beside(rt, &semaphore, CROWD, &has_ended);
+                shut_beside(rt, &semaphore);
                 return None;
             }
             semaphore.acquire_sync().err()
@@ -199,22 +55,9 @@ fn all_who_sleep_are_told_of_the_shut(rt: HostRuntime) {
     same!(rt; told_together(&rt).ok(), Some(CROWD));
 }
 
-// What the polls of a future gave before the shut and after it, whether its task was woken by it, and what the first poll of another gave.
-type Polled = [Option<Result<(), AcquireError>>; 3];
-
-fn by_futures<R: Wait + AllocGlobal>(rt: &R, task: &MockTask) -> io::Result<(Polled, bool)> {
-    let semaphore = with_patience(rt, rt.alloc(), 0, 1, NO_PATIENCE)?;
-    let mut waiting = semaphore.acquire_async();
-    let before = ready(task.poll(&mut waiting));
-    let _shut = semaphore.shut();
-    let is_woken = task.is_woken();
-    let after = ready(task.poll(&mut waiting));
-    let mut late = semaphore.acquire_async();
-    Ok(([before, after, ready(task.poll(&mut late))], is_woken))
-}
-
 // Whether a future of two permits as values waits until the shut, and is told of it then.
-fn by_permits<R: Wait + AllocGlobal>(rt: &R, task: &MockTask) -> io::Result<bool> {
+fn by_permits<R: Wait + RandomSource + AllocGlobal>(rt: &R) -> io::Result<bool> {
+    let task = MockTask::new(rt)?;
     let semaphore = with_patience(rt, rt.alloc(), 1, 1, NO_PATIENCE)?;
     let mut waiting = semaphore.acquire_permits_async(2);
     let is_pending = matches!(task.poll(&mut waiting), Poll::Pending);
@@ -226,23 +69,7 @@ fn by_permits<R: Wait + AllocGlobal>(rt: &R, task: &MockTask) -> io::Result<bool
     Ok(is_pending && is_told)
 }
 
-// What a poll gave, if it was ready.
-fn ready(poll: Poll<Result<(), AcquireError>>) -> Option<Result<(), AcquireError>> {
-    match poll {
-        Poll::Ready(output) => Some(output),
-        Poll::Pending => None,
-    }
-}
-
-fn futures_told<R: Wait + RandomSource + AllocGlobal>(
-    rt: &R,
-) -> io::Result<((Polled, bool), bool)> {
-    let task = MockTask::new(rt)?;
-    Ok((by_futures(rt, &task)?, by_permits(rt, &task)?))
-}
-
 #[test]
-fn futures_are_told_of_the_shut(rt: HostRuntime) {
-    let closed = Some(Err(AcquireError::Closed));
-    same!(rt; futures_told(&rt).ok(), Some((([None, closed, closed], true), true)));
+fn a_future_of_permits_is_told_of_the_shut(rt: HostRuntime) {
+    same!(rt; by_permits(&rt).ok(), Some(true));
 }

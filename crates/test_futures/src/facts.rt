@@ -1,16 +1,16 @@
-//! Facts that no story tells, since they speak of callbacks, of threads beside tasks, or of many tasks, and the test that each is so.
+//! Facts that no story tells, since they speak of threads beside tasks, or of many tasks, and the test that each is so.
 //!
 //! A test's text is proved anew for each call that it makes. So calls are in small functions that borrow what they use, and a test
 //! goes through a table.
 
-use crate::stories::Told::{Moved, Nothing, Passage, Passed};
-use crate::stories::Who::{First, Second};
-use crate::stories::{Tasks, Told};
-use crate::wakers::wakers::{Out, is_out};
-use crate::{callbacks, lines, sharing};
+use crate::wakers::wakers::Told::{Moved, Nothing, Passage, Passed};
+use crate::wakers::wakers::{Out, Told, is_out};
+use crate::{lines, polled, sharing};
+use futures::test::MockTask;
 use saa_core::semaphore::SemaphoreCore;
 use saa_sync::future::{PollOn, Progress};
-use saa_sync::gate::State;
+use saa_sync::gate::{Gate, State};
+use saa_sync::pager::Pager;
 use saa_sync::semaphore::Semaphore;
 use std::alloc::{AllocError, AllocGlobal};
 use std::fs::Files;
@@ -22,9 +22,9 @@ use test_asserts::same;
 
 #[derive(Clone, Copy)]
 enum Fact {
-    GatesCallback,
-    BarriersCallbacks,
     OnACore,
+    // One future of a pager waits until its answer.
+    PastItsAnswer,
     Between,
     Sharing,
     // The waker of a slow task goes out with the lock free, in a room of this size, which tells this.
@@ -33,13 +33,12 @@ enum Fact {
 
 const PASSED: State = State::Controlled;
 
-static FACTS: [(&str, Fact); 11] = [
-    ("a gate's callback may permit", Fact::GatesCallback),
-    (
-        "an arrival's callback runs at a barrier of size 0 too",
-        Fact::BarriersCallbacks,
-    ),
+static FACTS: [(&str, Fact); 10] = [
     ("a future can be polled on a core", Fact::OnACore),
+    (
+        "a pager's future is pending past its answer",
+        Fact::PastItsAnswer,
+    ),
     (
         "a task between two sleepers is served between them",
         Fact::Between,
@@ -106,29 +105,54 @@ fn on_a_core<H: Wait + AllocGlobal>(rt: &H) -> Result<bool, AllocError> {
     Ok(leaves_a_core(&semaphore, &mut core) && waits_at_a_core(&semaphore, &mut core))
 }
 
-// Whether this is so, by the tasks of a story.
+// A future of a pager waits until its answer, which wakes its task, and is pending behind it, and wakes its task too; whether all is so.
+fn polled_over_a_permit<'s, R: Wait + Drop>(
+    gate: &'s Gate<R>,
+    task: &MockTask,
+    pager: &mut Pager<'s, Gate<R>>,
+) -> bool {
+    let has_joined = gate.register_pager(pager, false) == Ok(true);
+    let mut poll = pager.poll_async();
+    let early = polled(task, &mut poll);
+    let moved = gate.permit();
+    let is_woken = task.is_woken();
+    let late = polled(task, &mut poll);
+    let is_calm = !task.is_woken();
+    let past = polled(task, &mut poll);
+    [early, late, past] == [None, Some(Ok(PASSED)), None]
+        && moved == Ok(1)
+        && has_joined
+        && [is_woken, is_calm, task.is_woken()] == [true; 3]
+}
+
+fn past_its_answer<H: Wait + AllocGlobal>(rt: &H, task: &MockTask) -> Result<bool, AllocError> {
+    let gate = Gate::new(rt, rt.alloc(), 1)?;
+    let mut pager = Pager::new();
+    let is_so = polled_over_a_permit(&gate, task, &mut pager);
+    Ok(is_so && !pager.is_registered())
+}
+
+// Whether this is so, by this task.
 fn is_so<H: Files + Threads + Wait + RandomSource + AllocGlobal + Sync>(
     rt: &H,
-    tasks: &Tasks,
+    one: &MockTask,
     fact: Fact,
 ) -> io::Result<bool> {
-    let (one, two) = (tasks.get(First), tasks.get(Second));
     match fact {
-        Fact::GatesCallback => callbacks::at_a_gate(rt, one),
-        Fact::BarriersCallbacks => callbacks::at_barriers(rt, one, two),
         Fact::OnACore => Ok(on_a_core(rt)?),
+        Fact::PastItsAnswer => Ok(past_its_answer(rt, one)?),
         Fact::Between => lines::between(rt, one),
         Fact::Sharing => sharing::together(rt),
         Fact::Wakes(room, out, told) => is_out(rt, one, room, (out, told)),
     }
 }
 
-// The first of these facts that isn't so, each with new tasks.
+// The first of these facts that isn't so, each with a new task.
 fn first_other<H: Files + Threads + Wait + RandomSource + AllocGlobal + Sync>(
     rt: &H,
 ) -> io::Result<Option<&'static str>> {
     for (name, fact) in &FACTS {
-        if !is_so(rt, &Tasks::new(rt)?, *fact)? {
+        if !is_so(rt, &MockTask::new(rt)?, *fact)? {
             return Ok(Some(*name));
         }
     }

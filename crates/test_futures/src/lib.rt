@@ -1,38 +1,18 @@
 //! Tests of the named futures and of pagers in tasks, which are polled by hand or by an executor.
 //!
-//! A contract says what a poll does to the core and answers. That a poll reaches the core under the mutex, and that an answer
-//! wakes exactly the tasks that it concerns, is shown here at a gate and at a barrier, and at a semaphore and a lock by the stories of
-//! `test_lock_free`, which are told at the threaded forms too. What becomes of wakers is shown by `wakers`.
+//! A contract says what a poll does to the core and answers. That a poll reaches the core under the mutex, and that an answer wakes exactly the tasks that it
+//! concerns, is told by `test_stories`. Here is what no story tells: wakers that go out beside other threads, rooms that are filled, and tasks and threads
+//! that share.
 #![tactic(auto)]
 
 #[cfg(test)]
-mod barrier_stories;
-#[cfg(test)]
-mod callbacks;
-#[cfg(test)]
-mod drops;
-#[cfg(test)]
 mod facts;
-#[cfg(test)]
-mod faults;
-#[cfg(test)]
-mod gate_stories;
 #[cfg(test)]
 mod lines;
 #[cfg(test)]
-mod pagers;
-#[cfg(test)]
 mod sharing;
 #[cfg(test)]
-mod stories;
-#[cfg(test)]
-mod values;
-#[cfg(test)]
 mod wakers;
-#[cfg(test)]
-mod wakes;
-#[cfg(test)]
-mod worked;
 
 #[cfg(test)]
 use futures::task::Poll;

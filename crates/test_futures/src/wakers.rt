@@ -1,8 +1,7 @@
-//! Tests of what becomes of a task's waker: each slot has a place of its own for it, it goes out with the mutex free, and none
-//! stays once an answer is taken.
+//! Tests of what becomes of a task's waker: each slot has a place of its own for it, and it goes out with the mutex free. That none
+//! stays once an answer is taken is told by the stories of `test_stories`.
 
 pub(crate) mod rooms;
-pub(crate) mod slots;
 pub(crate) mod wakers;
 
 use saa_core::Primitive;

@@ -256,7 +256,11 @@ impl Modelled for BarrierCore {
     }
 
     fn held(size: usize) -> Held {
-        Held::Barrier(size)
+        Held::Barrier {
+            size: size.min(63),
+            arrived: 0,
+            rounds: 0,
+        }
     }
 
     fn need(_ask: ()) -> Need {
@@ -264,12 +268,30 @@ impl Modelled for BarrierCore {
     }
 
     fn call_model(model: &mut Model, call: BarrierCall) -> BarrierAnswer {
-        let size = match model.held {
-            Held::Barrier(size) => size,
-            _ => 0,
+        let (size, arrived, rounds) = match model.held {
+            Held::Barrier {
+                size,
+                arrived,
+                rounds,
+            } => (size, arrived, rounds),
+            _ => (0, 0, 0),
         };
         match call {
-            BarrierCall::Count => BarrierAnswer::Count(size.saturating_sub(model.waiting())),
+            BarrierCall::Count => BarrierAnswer::Count(
+                size.saturating_sub(arrived).saturating_sub(model.waiting()),
+            ),
+            BarrierCall::Arrive => BarrierAnswer::Bool(
+                size > 0 && model.resize(size, arrived.saturating_add(1), rounds),
+            ),
+            BarrierCall::Join if size == 63 => BarrierAnswer::Bool(false),
+            BarrierCall::Join => {
+                model.resize(size.saturating_add(1), arrived, rounds);
+                BarrierAnswer::Bool(true)
+            }
+            BarrierCall::Leave => BarrierAnswer::Bool(
+                size > 0 && model.resize(size.saturating_sub(1), arrived, rounds),
+            ),
+            BarrierCall::Round => BarrierAnswer::Round(rounds),
         }
     }
 

@@ -11,9 +11,15 @@ const OWNERS: usize = 62;
 #[derive(Clone, Copy)]
 pub enum Held {
     /// A semaphore: so many permits are out, of so many.
-    Out { out: usize, bound: usize },
+    Out {
+        out: usize,
+        bound: usize,
+    },
     /// A semaphore that was shut: so many permits are still out, of so many.
-    Shut { out: usize, bound: usize },
+    Shut {
+        out: usize,
+        bound: usize,
+    },
     /// A lock that has no owner.
     Free,
     /// A lock of one owner alone.
@@ -24,8 +30,12 @@ pub enum Held {
     Poisoned,
     /// A gate, in this state.
     Gate(State),
-    /// A barrier of this size.
-    Barrier(usize),
+    /// A barrier of this size, in whose round so many arrived that don't wait, after so many rounds.
+    Barrier {
+        size: usize,
+        arrived: usize,
+        rounds: u64,
+    },
 }
 
 /// What a name asks.
@@ -213,6 +223,22 @@ impl Model {
         count
     }
 
+    /// Makes a barrier of this size, with so many arrivals that don't wait, after so many rounds; whether its round is complete
+    /// then.
+    pub fn resize(&mut self, size: usize, arrived: usize, rounds: u64) -> bool {
+        let arrivals = arrived.saturating_add(self.waiting());
+        let is_complete = arrivals > 0 && arrivals >= size;
+        self.held = Held::Barrier {
+            size,
+            arrived: if is_complete { 0 } else { arrived },
+            rounds: rounds.saturating_add(u64::from(is_complete)),
+        };
+        if is_complete {
+            self.answer_all(0);
+        }
+        is_complete
+    }
+
     /// Answers at most so many waiters, the oldest first, and returns how many they were.
     pub fn answer_front(&mut self, most: usize, value: u8) -> usize {
         let count = most.min(self.waiting());
@@ -251,11 +277,16 @@ impl Model {
             Held::Gate(State::Controlled) => None,
             Held::Gate(State::Sealed) => Some(9),
             Held::Gate(State::Open) => Some(2),
-            Held::Barrier(size) => {
-                if self.waiting().saturating_add(1) != size {
+            Held::Barrier {
+                size,
+                arrived,
+                rounds,
+            } => {
+                let arrived = arrived.saturating_add(1);
+                if arrived.saturating_add(self.waiting()) != size {
                     return None;
                 }
-                self.answer_all(0);
+                self.resize(size, arrived, rounds);
                 Some(1)
             }
             Held::Out { .. } | Held::Free | Held::Owned | Held::Shared(_) => {

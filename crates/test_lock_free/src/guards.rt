@@ -1,6 +1,5 @@
 //! Guards of the lock-free lock that are waited for in time: had at once, late, refused where no place is in, and had again once the holder goes.
 
-use crate::waits::{SOON, in_millis};
 use saa_word_lock_free::Full;
 use saa_word_lock_free::lock_api::{Mutex, RwLock};
 use std::alloc::AllocGlobal;
@@ -9,6 +8,15 @@ use std::ops::Deref;
 use std::sync::Wait;
 use std::time::{Clock, Duration, Instant};
 use test_asserts::same;
+
+// How long timed calls wait that are late, in milliseconds.
+const SOON: u64 = 2;
+
+// The instant at which that is over.
+fn soon(rt: &impl Clock) -> io::Result<Instant> {
+    let now = Instant::now(rt)?;
+    Ok(now.checked_add(Duration::from_millis(SOON)).unwrap_or(now))
+}
 
 // What a timed call was told: the number that its guard shows, nothing in time, or that there is no place.
 type Told = Result<Option<u64>, Full>;
@@ -42,21 +50,21 @@ fn of_rw_lock<R: Wait + Clock + Drop>(lock: &RwLock<R, u64>, soon: Instant) -> [
 // What the calls of a mutex are told while it is free, while it is locked, and once it is free again.
 fn mutex_in_time<H: Wait + Clock + AllocGlobal>(rt: &H, room: u16) -> io::Result<[[Told; 2]; 3]> {
     let mutex: Mutex<&H, u64> = Mutex::new(rt, rt.alloc(), 7, room)?;
-    let free = of_mutex(&mutex, in_millis(rt, SOON)?);
+    let free = of_mutex(&mutex, soon(rt)?);
     let held = mutex.try_lock();
-    let late = of_mutex(&mutex, in_millis(rt, SOON)?);
+    let late = of_mutex(&mutex, soon(rt)?);
     drop(held);
-    Ok([free, late, of_mutex(&mutex, in_millis(rt, SOON)?)])
+    Ok([free, late, of_mutex(&mutex, soon(rt)?)])
 }
 
 // The same of a reader-writer lock that a reader holds.
 fn rw_lock_in_time<H: Wait + Clock + AllocGlobal>(rt: &H, room: u16) -> io::Result<[[Told; 4]; 3]> {
     let lock: RwLock<&H, u64> = RwLock::new(rt, rt.alloc(), 7, room)?;
-    let free = of_rw_lock(&lock, in_millis(rt, SOON)?);
+    let free = of_rw_lock(&lock, soon(rt)?);
     let held = lock.try_read();
-    let late = of_rw_lock(&lock, in_millis(rt, SOON)?);
+    let late = of_rw_lock(&lock, soon(rt)?);
     drop(held);
-    Ok([free, late, of_rw_lock(&lock, in_millis(rt, SOON)?)])
+    Ok([free, late, of_rw_lock(&lock, soon(rt)?)])
 }
 
 // Had, late, and refused.

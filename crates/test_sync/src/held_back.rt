@@ -150,10 +150,22 @@ impl<R: Wait + Drop> Held for Entry<R> {
     }
 }
 
-// All arrivals of a round at a barrier but the last.
+// What completes a round that others wait for: the last arrival, which waits or doesn't, or a task that leaves; or, at a barrier of size 0, a
+// task that joins.
+#[derive(Clone, Copy)]
+enum Last {
+    Waits,
+    Arrives,
+    Leaves,
+    Joins,
+}
+
+// All arrivals of a round at a barrier but what completes it.
 #[derive(Drop)]
 struct Arrival<R: Wait + Drop> {
     barrier: Barrier<R>,
+    last: Last,
+    missing: usize,
 }
 
 impl<R: Wait + Drop> Held for Arrival<R> {
@@ -166,11 +178,18 @@ impl<R: Wait + Drop> Held for Arrival<R> {
     }
 
     fn is_held(&self) -> bool {
-        self.barrier.count(Ordering::SeqCst) == 1
+        let mo = Ordering::SeqCst;
+        self.barrier.round(mo) == 0 && self.barrier.count(mo) == self.missing
     }
 
     fn answers(&self) -> bool {
-        self.barrier.wait_sync() == Ok(true)
+        let is_complete = match self.last {
+            Last::Waits => self.barrier.wait_sync() == Ok(true),
+            Last::Arrives => self.barrier.arrive(),
+            Last::Leaves => self.barrier.leave(),
+            Last::Joins => self.barrier.join(),
+        };
+        is_complete && self.barrier.round(Ordering::SeqCst) == 1
     }
 }
 
@@ -289,13 +308,20 @@ where
     Ok(told(rt, &Entry { gate, count }, count))
 }
 
-fn at_a_barrier<H>(rt: &H, count: u16) -> Result<[u64; 4], AllocError>
+fn at_a_barrier<H>(rt: &H, last: Last, count: u16) -> Result<[u64; 4], AllocError>
 where
     H: Wait + Threads + Sync + AllocGlobal,
 {
-    let size = usize::from(count).saturating_add(1);
-    let barrier = Barrier::with_count(rt, rt.alloc(), size, count)?;
-    Ok(told(rt, &Arrival { barrier }, count))
+    let size = match last {
+        Last::Joins => 0,
+        _ => usize::from(count).saturating_add(1),
+    };
+    let arrivals = Arrival {
+        barrier: Barrier::with_count(rt, rt.alloc(), size, count)?,
+        last,
+        missing: size.saturating_sub(usize::from(count)),
+    };
+    Ok(told(rt, &arrivals, count))
 }
 
 #[test]
@@ -308,6 +334,8 @@ fn calls_with_a_callback_are_held_back_and_woken(rt: HostRuntime) {
         same!(rt; at_a_lock(&rt, Mode::Shared, End::Releases, count), all);
         same!(rt; at_a_lock(&rt, Mode::Shared, End::Poisons, count), all);
         same!(rt; at_a_gate(&rt, count), all);
-        same!(rt; at_a_barrier(&rt, count), all);
+        for last in [Last::Waits, Last::Arrives, Last::Leaves, Last::Joins] {
+            same!(rt; at_a_barrier(&rt, last, count), all);
+        }
     }
 }

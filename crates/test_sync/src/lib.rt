@@ -12,6 +12,8 @@ mod crowds;
 #[cfg(test)]
 mod held_back;
 #[cfg(test)]
+mod newcomers;
+#[cfg(test)]
 mod orderings;
 #[cfg(test)]
 mod parkers;

@@ -1,14 +1,14 @@
 //! Wakers go out with the mutex free: a wake lasts until another thread has locked the mutex many times.
 
 use crate::polled;
-use crate::stories::Told;
-use crate::stories::Told::{Moved, Nothing, Passage, Passed};
 use crate::wakers::answer_untold;
+use crate::wakers::wakers::Told::{Moved, Nothing, Passage, Passed};
 use futures::Future;
 use futures::task::{Doorbell, Poll as Polled, Solo};
 use futures::test::MockTask;
+use saa_core::ticket::Full;
 use saa_sync::future::Enter;
-use saa_sync::gate::Gate;
+use saa_sync::gate::{Error, Gate, State};
 use saa_sync::pager::Pager;
 use std::alloc::AllocGlobal;
 use std::fs::Files;
@@ -103,6 +103,18 @@ pub(crate) enum Out {
     // Another task takes the answer of the future or the pager, at whose slot the waker is left.
     FuturesAnswer,
     PagersAnswer,
+}
+
+// What that tells.
+#[derive(Clone, Copy, PartialEq)]
+pub(crate) enum Told {
+    // Nothing: a future or a pager was dropped.
+    Nothing,
+    // How many the gate let pass.
+    Moved(Result<usize, State>),
+    // A poll of a future, and of a pager, if it was ready.
+    Passage(Option<Result<Result<State, Error>, Full>>),
+    Passed(Option<Result<State, Error>>),
 }
 
 // What another task is told that polls a future.

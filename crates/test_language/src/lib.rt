@@ -1,0 +1,9 @@
+//! The language of stories, what a move answers in its words, and the player of stories at a core.
+//!
+//! `test_core` tells stories of the cores, `test_stories` of the forms.
+#![tactic(auto)]
+
+pub mod cores;
+pub mod language;
+pub mod reply;
+pub mod worked;

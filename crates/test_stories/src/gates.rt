@@ -1,0 +1,133 @@
+//! The gate of stories.
+
+use crate::forms::{Asks, Form, Pages, Span};
+use saa_core::Primitive;
+use saa_core_spec::request::Full;
+use saa_core_waits::{Acquiring, AcquiringWith, Pager};
+use saa_sync::future::Passing;
+use saa_sync::gate::{Gate, TimedEntry};
+use saa_sync::pager::Ticket;
+use saa_sync::testing::{Counted, call_untold, slot_of};
+use std::sync::Wait;
+use std::sync::atomic::Ordering::SeqCst;
+use std::time::Clock;
+use test_language::language::Call;
+use test_language::reply::{Replies, Reply, ReplyWord, number, unknown, word};
+
+impl<R: Wait + Clock + Drop> Form for Gate<R> {
+    fn call(&self, call: &Call<'_>) -> Reply {
+        match (call.verb, call.number()) {
+            ("state", _) => self.state(SeqCst).reply(),
+            ("reset", _) => match self.reset() {
+                Some(before) => before.reply(),
+                None => word(ReplyWord::None),
+            },
+            ("permit", _) => self.permit().reply(),
+            ("permit_many", Some(count)) => self.permit_many(count).reply(),
+            ("reject", _) => self.reject().reply(),
+            ("open", _) => self.open().reply(),
+            ("seal", _) => self.seal().reply(),
+            ("enter", _) => self.enter_sync().reply(),
+            ("give_up", _) => gives_up(self).reply(),
+            ("permit_untold", _) => is_untold(self).reply(),
+            ("notified", _) => number(self.counts().notified()),
+            ("parked", _) => number(self.counts().parked()),
+            _ => unknown(),
+        }
+    }
+
+    fn call_in_time(&self, call: &Call<'_>, span: Span) -> Reply {
+        match (call.verb, span) {
+            ("enter_for", Span::For(long)) => entered(self.enter_sync_for(long)),
+            ("enter_until", Span::Until(end)) => entered(self.enter_sync_until(end)),
+            _ => unknown(),
+        }
+    }
+
+    fn call_with<F: FnOnce() + Drop>(&self, _call: &Call<'_>, begin_wait: F) -> Reply {
+        self.enter_sync_with(begin_wait).reply()
+    }
+
+    fn sleeps(&self, calls: usize) -> bool {
+        self.counts().parked() >= calls
+    }
+
+    fn let_all_go(&self) {
+        self.open();
+    }
+}
+
+// What a timed call tells.
+fn entered(told: Result<TimedEntry, Full>) -> Reply {
+    match told {
+        Ok(TimedEntry::Passed(state)) => state.granted(),
+        Ok(TimedEntry::Refused(error)) => error.reply(),
+        Ok(TimedEntry::Late) => word(ReplyWord::TimedOut),
+        Err(full) => full.reply(),
+    }
+}
+
+// Another pager is registered, and dropped.
+fn gives_up<R: Wait + Drop>(gate: &Gate<R>) -> Result<bool, Full> {
+    let mut pager = Pager::new();
+    gate.register_pager(&mut pager, true)
+}
+
+// Answers the waiter, and takes the wake that is pending for that, but wakes no task: the waker stays where it is.
+fn is_untold<R: Wait + Drop>(gate: &Gate<R>) -> bool {
+    call_untold(gate, |core| {
+        core.permit() == Ok(1) && core.next_answered().is_some()
+    })
+}
+
+impl<R: Wait + Clock + Drop> Pages<Ticket> for Gate<R> {
+    fn enroll<'s>(
+        &'s self,
+        pager: &mut Pager<'s, Self, Ticket>,
+        call: &Call<'_>,
+    ) -> Result<bool, Full> {
+        self.register_pager(pager, call.is_sync)
+    }
+
+    fn is_notified(&self, pager: &Pager<'_, Self, Ticket>) -> Option<bool> {
+        slot_of(pager).map(|slot| self.counts().is_notified(slot))
+    }
+
+    fn with_permit<'s>(
+        &'s self,
+        _call: &Call<'_>,
+        _span: Span,
+        _pager: &mut Pager<'s, Self, Ticket>,
+    ) -> Reply {
+        unknown()
+    }
+}
+
+impl<R: Wait + Drop> Asks<Passing, Passing> for Gate<R> {
+    fn ask_one(&self) -> Acquiring<'_, Self, Passing> {
+        self.enter_async()
+    }
+
+    fn ask_many(&self, _call: &Call<'_>) -> Acquiring<'_, Self, Passing> {
+        self.enter_async()
+    }
+
+    fn ask_one_with<F: FnOnce() + Drop>(
+        &self,
+        begin_wait: F,
+    ) -> AcquiringWith<'_, Self, Passing, F> {
+        self.enter_async_with(begin_wait)
+    }
+
+    fn ask_many_with<F: FnOnce() + Drop>(
+        &self,
+        _call: &Call<'_>,
+        begin_wait: F,
+    ) -> AcquiringWith<'_, Self, Passing, F> {
+        self.enter_async_with(begin_wait)
+    }
+
+    fn is_many(_call: &Call<'_>) -> bool {
+        false
+    }
+}

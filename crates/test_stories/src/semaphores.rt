@@ -1,0 +1,289 @@
+//! The semaphores of stories: the lock-free one and the threaded one, by the calls that both have under the same names.
+
+use crate::forms::{Asks, Form, Pages, Span};
+use saa_core_spec::request::Full;
+use saa_core_waits::blocking::{acquire, acquire_until};
+use saa_core_waits::{Acquiring, AcquiringWith, Deadline, Pager};
+use saa_sync::future::semaphore as threaded_future;
+use saa_sync::pager::Ticket;
+use saa_sync::semaphore::SemaphoreOf as Threaded;
+use saa_sync::testing::{Counted, call_untold, slot_of};
+use saa_word_lock_free::future as lock_free_future;
+use saa_word_lock_free::registration::Registration;
+use saa_word_lock_free::semaphore::SemaphoreOf as LockFree;
+use saa_word_threads::semaphore::SemaphoreOf as Word;
+use std::sync::Wait;
+use std::sync::atomic::Ordering::SeqCst;
+use std::time::Clock;
+use test_language::language::Call;
+use test_language::reply::{Replies, Reply, ReplyWord, number, unknown, word};
+
+// The calls that both have, but for those that wait.
+macro_rules! called {
+    ($form:expr, $call:expr) => {
+        match ($call.verb, $call.number()) {
+            ("is_open", _) => $form.is_open(SeqCst).reply(),
+            ("is_closed", _) => $form.is_closed(SeqCst).reply(),
+            ("available", _) => number($form.available_permits(SeqCst)),
+            ("try", None) => $form.try_acquire().reply(),
+            ("try", Some(count)) => $form.try_acquire_many(count).reply(),
+            ("release", None) => $form.release().reply(),
+            ("release", Some(count)) => $form.release_many(count).reply(),
+            ("acquire", None) => $form.acquire_sync().reply(),
+            ("acquire", Some(count)) => $form.acquire_many_sync(count).reply(),
+            _ => unknown(),
+        }
+    };
+}
+
+macro_rules! called_in_time {
+    ($form:expr, $call:expr, $span:expr, $registration:expr) => {
+        match ($call.verb, $call.number(), $span) {
+            ("acquire_for", None, Span::For(long)) => $form.acquire_sync_for(long).reply(),
+            ("acquire_until", None, Span::Until(end)) => $form.acquire_sync_until(end).reply(),
+            ("acquire_for", Some(count), Span::For(long)) => {
+                $form.acquire_many_sync_for(count, long).reply()
+            }
+            ("acquire_until", Some(count), Span::Until(end)) => {
+                $form.acquire_many_sync_until(count, end).reply()
+            }
+            ("acquire_any_until", Some(count), Span::Until(end)) => {
+                acquire_until($form, $registration, count, Deadline::At(end)).reply()
+            }
+            _ => unknown(),
+        }
+    };
+}
+
+macro_rules! called_with {
+    ($form:expr, $call:expr, $begin_wait:expr) => {
+        match $call.number() {
+            Some(count) => $form.acquire_many_sync_with(count, $begin_wait).reply(),
+            None => $form.acquire_sync_with($begin_wait).reply(),
+        }
+    };
+}
+
+// A permit that goes, or is forgotten; the pager is registered beside it.
+macro_rules! permitted {
+    ($form:expr, $call:expr, $span:expr, $pager:expr) => {{
+        let told = match ($call.verb, $span) {
+            ("take_permit", _) => $form.acquire_permit().map(Some),
+            ("permit_for", Span::For(long)) => $form.acquire_permit_for(long),
+            ("permit_until", Span::Until(end)) => $form.acquire_permit_until(end),
+            _ => Ok($form.try_acquire_permit()),
+        };
+        match told {
+            Ok(Some(permit)) => {
+                let available = $form.available_permits(SeqCst);
+                if $call.verb == "pass_permit" {
+                    let _told = $form.register_pager($pager, 1, true);
+                }
+                if $call.then().verb == "forget" {
+                    permit.forget();
+                }
+                number(available)
+            }
+            Ok(None) => word(ReplyWord::TimedOut),
+            Err(full) => full.reply(),
+        }
+    }};
+}
+
+// Gives back all that are out.
+macro_rules! released {
+    ($form:expr, $max:expr) => {
+        for _permit in 0..$max {
+            if !$form.release() {
+                return;
+            }
+        }
+    };
+}
+
+impl<R: Wait + Clock + Drop, const MAX: usize> Form for LockFree<R, MAX> {
+    fn call(&self, call: &Call<'_>) -> Reply {
+        let count = call.number().unwrap_or(1);
+        match call.verb {
+            "available_witnessed" => number(usize::from(self.available_permits_witnessed().0)),
+            "try_witnessed" => self.try_acquire_many_witnessed(count).0.reply(),
+            "release_witnessed" => self.release_many_witnessed(count).0.reply(),
+            "acquire_any" => acquire(self, &mut Registration::new(), count).reply(),
+            "acquire_witnessed" if count > MAX => word(ReplyWord::False),
+            "acquire_witnessed" => match self.acquire_many_witnessed(count) {
+                Ok((value, _receipt)) => value.reply(),
+                Err(_no_place) => word(ReplyWord::Full),
+            },
+            _ => called!(self, call),
+        }
+    }
+
+    fn call_in_time(&self, call: &Call<'_>, span: Span) -> Reply {
+        called_in_time!(self, call, span, &mut Registration::new())
+    }
+
+    fn call_with<F: FnOnce() + Drop>(&self, call: &Call<'_>, begin_wait: F) -> Reply {
+        called_with!(self, call, begin_wait)
+    }
+
+    // While there is a waiter not even 0 permits are granted.
+    fn sleeps(&self, _calls: usize) -> bool {
+        !self.try_acquire_many(0)
+    }
+
+    fn let_all_go(&self) {
+        released!(self, MAX)
+    }
+}
+
+impl<R: Wait + Clock + Drop, const MAX: usize> Pages<Registration<Word<MAX>>> for LockFree<R, MAX> {
+    fn enroll<'s>(
+        &'s self,
+        pager: &mut Pager<'s, Self, Registration<Word<MAX>>>,
+        call: &Call<'_>,
+    ) -> Result<bool, Full> {
+        self.register_pager(pager, call.asked(), call.is_sync)
+    }
+
+    // Its places don't say.
+    fn is_notified(&self, _pager: &Pager<'_, Self, Registration<Word<MAX>>>) -> Option<bool> {
+        None
+    }
+
+    fn with_permit<'s>(
+        &'s self,
+        call: &Call<'_>,
+        span: Span,
+        pager: &mut Pager<'s, Self, Registration<Word<MAX>>>,
+    ) -> Reply {
+        permitted!(self, call, span, pager)
+    }
+}
+
+impl<R: Wait + Drop, const MAX: usize> Asks<
+    lock_free_future::OnePermit,
+    lock_free_future::ManyPermits,
+> for LockFree<R, MAX> {
+    fn ask_one(&self) -> Acquiring<'_, Self, lock_free_future::OnePermit> {
+        self.acquire_async()
+    }
+
+    fn ask_many(&self, call: &Call<'_>) -> Acquiring<'_, Self, lock_free_future::ManyPermits> {
+        self.acquire_many_async(call.number().unwrap_or(1))
+    }
+
+    fn ask_one_with<F: FnOnce() + Drop>(
+        &self,
+        begin_wait: F,
+    ) -> AcquiringWith<'_, Self, lock_free_future::OnePermit, F> {
+        self.acquire_async_with(begin_wait)
+    }
+
+    fn ask_many_with<F: FnOnce() + Drop>(
+        &self,
+        call: &Call<'_>,
+        begin_wait: F,
+    ) -> AcquiringWith<'_, Self, lock_free_future::ManyPermits, F> {
+        self.acquire_many_async_with(call.number().unwrap_or(1), begin_wait)
+    }
+
+    fn is_many(call: &Call<'_>) -> bool {
+        call.number().is_some()
+    }
+}
+
+// It has no calls with receipts, and answers these by its plain ones.
+impl<R: Wait + Clock + Drop, const MAX: usize> Form for Threaded<R, MAX> {
+    fn call(&self, call: &Call<'_>) -> Reply {
+        let count = call.number().unwrap_or(1);
+        match call.verb {
+            "available_witnessed" => number(self.available_permits(SeqCst)),
+            "try_witnessed" => self.try_acquire_many(count).reply(),
+            "release_witnessed" => self.release_many(count).reply(),
+            "acquire_any" => acquire(self, &mut Ticket::new(), count).reply(),
+            "acquire_witnessed" => match self.acquire_many_sync(count) {
+                Ok(true) => number(0),
+                told => told.reply(),
+            },
+            "shut" => self.shut().reply(),
+            "is_shut" => self.is_shut().reply(),
+            "notified" => number(self.counts().notified()),
+            "parked" => number(self.counts().parked()),
+            "lookers" => number(self.counts().lookers() as usize),
+            // It wakes no waiter.
+            "release_untold" => call_untold(self, |core| core.release()).reply(),
+            _ => called!(self, call),
+        }
+    }
+
+    fn call_in_time(&self, call: &Call<'_>, span: Span) -> Reply {
+        called_in_time!(self, call, span, &mut Ticket::new())
+    }
+
+    fn call_with<F: FnOnce() + Drop>(&self, call: &Call<'_>, begin_wait: F) -> Reply {
+        called_with!(self, call, begin_wait)
+    }
+
+    fn sleeps(&self, calls: usize) -> bool {
+        self.counts().parked() >= calls
+    }
+
+    fn let_all_go(&self) {
+        released!(self, MAX)
+    }
+}
+
+impl<R: Wait + Clock + Drop, const MAX: usize> Pages<Ticket> for Threaded<R, MAX> {
+    fn enroll<'s>(
+        &'s self,
+        pager: &mut Pager<'s, Self, Ticket>,
+        call: &Call<'_>,
+    ) -> Result<bool, Full> {
+        self.register_pager(pager, call.asked(), call.is_sync)
+    }
+
+    fn is_notified(&self, pager: &Pager<'_, Self, Ticket>) -> Option<bool> {
+        slot_of(pager).map(|slot| self.counts().is_notified(slot))
+    }
+
+    fn with_permit<'s>(
+        &'s self,
+        call: &Call<'_>,
+        span: Span,
+        pager: &mut Pager<'s, Self, Ticket>,
+    ) -> Reply {
+        permitted!(self, call, span, pager)
+    }
+}
+
+impl<R: Wait + Drop, const MAX: usize> Asks<
+    threaded_future::OnePermit,
+    threaded_future::ManyPermits,
+> for Threaded<R, MAX> {
+    fn ask_one(&self) -> Acquiring<'_, Self, threaded_future::OnePermit> {
+        self.acquire_async()
+    }
+
+    fn ask_many(&self, call: &Call<'_>) -> Acquiring<'_, Self, threaded_future::ManyPermits> {
+        self.acquire_many_async(call.number().unwrap_or(1))
+    }
+
+    fn ask_one_with<F: FnOnce() + Drop>(
+        &self,
+        begin_wait: F,
+    ) -> AcquiringWith<'_, Self, threaded_future::OnePermit, F> {
+        self.acquire_async_with(begin_wait)
+    }
+
+    fn ask_many_with<F: FnOnce() + Drop>(
+        &self,
+        call: &Call<'_>,
+        begin_wait: F,
+    ) -> AcquiringWith<'_, Self, threaded_future::ManyPermits, F> {
+        self.acquire_many_async_with(call.number().unwrap_or(1), begin_wait)
+    }
+
+    fn is_many(call: &Call<'_>) -> bool {
+        call.number().is_some()
+    }
+}
