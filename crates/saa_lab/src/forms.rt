@@ -181,11 +181,13 @@ pub static OF_A_BARRIER: [Form; 12] = [
 ];
 
 /// The calls of a semaphore in words.
-pub static CALLS_OF_A_SEMAPHORE: [Form; 7] = [
+pub static CALLS_OF_A_SEMAPHORE: [Form; 9] = [
     ("try", Asks::Try, Shape::Counted),
     ("reg", Asks::Register, Shape::Counted),
     ("release", Asks::Release, Shape::Counted),
     ("available", Asks::Available, Shape::Alone),
+    ("shut", Asks::Shut, Shape::Alone),
+    ("is_shut", Asks::IsShut, Shape::Alone),
     ("try_poll", Asks::TryPoll, Shape::Alone),
     ("poll", Asks::Poll, Shape::Alone),
     ("cancel", Asks::Cancel, Shape::Alone),

@@ -54,6 +54,8 @@ fn semaphore_call(said: Said) -> Option<WordCall> {
         Asks::Register => Some(WordCall::Register(said.count)),
         Asks::Release => Some(WordCall::Release(said.count)),
         Asks::Available => Some(WordCall::Available),
+        Asks::Shut => Some(WordCall::Shut),
+        Asks::IsShut => Some(WordCall::IsShut),
         _ => None,
     }
 }
@@ -90,6 +92,8 @@ pub fn call_text(alloc: Global, call: WordCall) -> Result<String, AllocError> {
 fn lone_call_text(call: WordCall) -> &'static str {
     match call {
         WordCall::Available => "available",
+        WordCall::Shut => "shut",
+        WordCall::IsShut => "is_shut",
         WordCall::TryLock => "try_lock",
         WordCall::TryShare => "try_share",
         WordCall::ReleaseLock => "release_lock",
@@ -114,9 +118,10 @@ pub fn answer_text(alloc: Global, is_lock: bool, answer: Answer) -> Result<Strin
         Answer::Bool(is_so) => format!(in alloc; "{is_so}"),
         Answer::Number(number) => format!(in alloc; "{number}"),
         Answer::Tried(tried) => String::from_str(alloc, try_text(tried)),
-        Answer::Taken(Ok(is_granted)) => match is_lock {
-            true => format!(in alloc; "{is_granted}"),
-            false => String::from_str(alloc, "ok"),
+        Answer::Taken(Ok(is_granted)) => match (is_lock, is_granted) {
+            (true, _) => format!(in alloc; "{is_granted}"),
+            (false, true) => String::from_str(alloc, "ok"),
+            (false, false) => String::from_str(alloc, "closed"),
         },
         Answer::Taken(Err(error)) => String::from_str(alloc, error_text(error)),
         Answer::Unit => Ok(String::new(alloc)),

@@ -20,7 +20,7 @@ use Rattle.saa_word_steps.specs.declared.place.Stage.{Stage}
 use Rattle.saa_word_steps.specs.declared.place.Stage.TheVariants.{Quiet, ReadLoad, AcquireLoad, AcquireExchange, Prepare, Join, ReleaseLoad, ReleaseExchange, BackLoad, BackStore, Forward, CutToClose, CutForRetry, Close, Empty, Retry, ShowLoad, ShowStore, Take, FlagLoad, FlagExchange, LookLoad, LookStore, Unlink, DropTail, PoisonLoad, PoisonExchange, Clear}
 use Rattle.saa_word_steps.specs.declared.place.Next.{Next}
 use Rattle.saa_word_steps.specs.declared.place.Next.TheVariants.{Going as GoesOn, Waits as HasToWait, Done as IsDone}
-use Rattle.saa_word_steps.specs.Needs.{Needs, fits_count}
+use Rattle.saa_word_steps.specs.Needs.{Needs, fits_count, forgets}
 use Rattle.saa_word_steps.specs.Steps.{left_from, next_of, finished, granted, decided, gave_nothing, given_to, given, shown_all, dropped, looked_at, closing, taken_answer}
 use Rattle.saa_word_proofs.specs.CallStages.{IsBegun, IsUnder}
 use Rattle.saa_word_proofs.specs.Refinement.{is_holder}
@@ -71,7 +71,7 @@ on-left place what seen (Some left) = refl
 
 on-given : (needs : Needs) (place : Place) (what : ReleaseAmount) (seen : Word) → TurnsAway (given needs place what seen)
 on-given needs place what seen =
-    either seen.is_poisoned _ _ (on-nothing place place.back) (on-left place what seen (left_from needs seen.count what))
+    either (forgets needs seen.is_poisoned) _ _ (on-nothing place place.back) (on-left place what seen (left_from needs seen.count what))
 
 on-shown : (place : Place) (afterwards : AfterShow) → TurnsAway (shown_all place afterwards)
 on-shown place Ends = on-finished place place.back

@@ -17,7 +17,7 @@ use Rattle.saa_word_steps.specs.declared.place.Stage.TheVariants.{Quiet}
 use Rattle.saa_word_steps.specs.declared.place.Registration.{Registration}
 use Rattle.saa_word_steps.specs.Needs.{Needs, needs_of, permit_needs}
 use Rattle.saa_word_steps.specs.AbstractState.{AbstractState, IsRun, OwesNothing, after_event, is_in, opening}
-use Rattle.saa_word_proofs.proofs.ConservationLemmas.{opening-granted, run-balanced, run-never, run-pending, run-permits}
+use Rattle.saa_word_proofs.proofs.ConservationLemmas.{opening-granted, run-balanced, run-granted, run-pending, run-permits}
 use Rattle.saa_word_proofs.specs.Registering.{AreRegistered, registration_after_start, is_slot, registration_after, starting_answer}
 use Rattle.saa_word_proofs.specs.CallStages.{IsBegun, IsLeft, IsStartedAs, IsUnder, IsUnderNext}
 use Rattle.saa_word_proofs.proofs.SoloLemmas.Paths.{left-next}
@@ -70,11 +70,12 @@ conserves state trace run bound rules =
     let needs : Needs = permit_needs bound in
     let same : IsRun needs (opening trace.withheld) trace.history trace.state =
     subst (λ (r : Rules). IsRun (needs_of r) (opening trace.withheld) trace.history trace.state) rules run in
-    let none = run-never needs refl (opening trace.withheld) trace.history trace.state same in
+    let told = run-granted needs refl trace.withheld trace.history trace.state same in
     record {
-      balanced = run-balanced bound trace.withheld trace.history trace.state none same;
-      pending = λ place. (run-pending needs trace.withheld trace.history trace.state none same).pending place;
-      events = run-permits needs refl (opening trace.withheld) trace.history trace.state refl (opening-granted trace.withheld) same;
+      balanced = run-balanced bound trace.withheld trace.history trace.state same;
+      pending = λ place. (run-pending needs trace.withheld trace.history trace.state same).pending place;
+      told = λ place value. (told.due place value, told.shown place value);
+      events = run-permits needs refl (opening trace.withheld) trace.history trace.state (opening-granted trace.withheld) same;
     }
 
 -- the call that a place is in behind its step
@@ -329,7 +330,7 @@ begun state trace me call here taken tracks quiet =
     let behind : Place = place_after place next in
     let after : State = record state { places = set state.places me behind } in
     let none : place.stage ≡ Quiet = quiet-stage place.stage quiet in
-    let starts : IsBegun needs call place.registration next = call-begun needs place call none in
+    let starts : IsBegun needs call place.registration next = call-begun needs place call none taken in
     let refines : RefinesAs after trace.state = start-stands state trace.state me call tracks.sized.wide here tracks.refines quiet taken in
     let place_is : place_of after ≡ updated (place_of state) me behind = set-updated state.places me behind idle_place here in
     let made : ℕ → ℕ = made_after trace.made (Start me call) (step_of next) (row_of state 0 == row_of state 0) in

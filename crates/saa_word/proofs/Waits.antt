@@ -1,5 +1,5 @@
 -- A place that has to wait is in a call that is blocked, and leaves words and places as they are.
-use Rattle.std.proofs.Common.{get_or, ◌≡◌, ◌≢◌, ℕ, ◌+◌, ◌<◌, ◌==◌, Bool, true, false, List, [], length, Option, Some, None, refl, sym, subst, ◌∙◌, ap, inl, inr}
+use Rattle.std.proofs.Common.{get_or, ◌≡◌, ◌≢◌, ℕ, ◌+◌, ◌<◌, ◌==◌, Bool, true, false, if◌then◌else◌, List, [], length, Option, Some, None, refl, sym, subst, ◌∙◌, ap, inl, inr}
 use Rattle.std.proofs.Math.ListN.{set}
 use Rattle.saa_word_steps.specs.declared.operation.Operation.{Operation}
 use Rattle.saa_word_steps.specs.declared.call.WordCall.{WordCall}
@@ -16,17 +16,17 @@ use Rattle.saa_core_words.specs.declared.word.Word.{Word}
 use Rattle.saa_word_steps.specs.Needs.{Needs, needs_of}
 use Rattle.saa_word_steps.specs.declared.event.Event.{Event}
 use Rattle.saa_word_steps.specs.AbstractState.{AbstractState, is_in}
-use Rattle.saa_core_spec.proofs.Counts.{number_same}
+use Rattle.saa_core_spec.proofs.Counts.{number_same, same_number}
 use Rattle.saa_word_steps.specs.Steps.{next_of, operation_of, word_at, written_by}
 use Rattle.saa_word_proofs.specs.Refinement.{IsLocallyTrue, IsLeaving, IsShowing, is_holder}
 use Rattle.saa_word_proofs.specs.Registering.{is_slot}
-use Rattle.saa_word_proofs.specs.Rows.{main_of}
+use Rattle.saa_word_proofs.specs.Rows.{IsOwnedAndFlagged, IsRefusableAndFlagged, main_of}
 use Rattle.saa_word_proofs.specs.StepRefinement.{place_after}
-use Rattle.saa_word_proofs.specs.CallStages.{IsLeavingLine, IsUnder, taken_by}
+use Rattle.saa_word_proofs.specs.CallStages.{IsLeavingLine, IsUnder, is_poisoning, taken_by}
 use Rattle.saa_word_proofs.specs.Blocking.{IsBlockedAt}
 use Rattle.saa_word_proofs.specs.Promises.{idle_place}
 use Rattle.saa_word_proofs.proofs.RefinementLemmas.Lists.{updated-at}
-use Rattle.saa_word_steps.specs.declared.call.WordCall.TheVariants.{Try, Register, Release, Available, TryLock, TryShare, RegisterMode, ReleaseLock, ReleaseShare, Downgrade, PoisonLock, ClearPoison, IsFree, IsLocked, IsShared, IsPoisoned, TryPoll, Poll, Cancel}
+use Rattle.saa_word_steps.specs.declared.call.WordCall.TheVariants.{Try, Register, Release, Available, Shut, IsShut, TryLock, TryShare, RegisterMode, ReleaseLock, ReleaseShare, Downgrade, PoisonLock, ClearPoison, IsFree, IsLocked, IsShared, IsPoisoned, TryPoll, Poll, Cancel}
 use Rattle.saa_word_proofs.proofs.RefinementLemmas.Polls.{only-stalls}
 use Rattle.std.proofs.lemmas.List.{set-get_or}
 use Rattle.saa_word.specs.Machine.{State, place_of, row_of}
@@ -46,6 +46,8 @@ awaits-polls (Try count) is = absurd (cc)
 awaits-polls (Register count) is = absurd (cc)
 awaits-polls (Release count) is = absurd (cc)
 awaits-polls Available is = absurd (cc)
+awaits-polls Shut is = absurd (cc)
+awaits-polls IsShut is = absurd (cc)
 awaits-polls TryLock is = absurd (cc)
 awaits-polls TryShare is = absurd (cc)
 awaits-polls (RegisterMode mode) is = absurd (cc)
@@ -79,9 +81,22 @@ record Configuration (trace : Trace) (me : ℕ) (seen : Word) (registration : Re
   held : seen.is_flagged ≡ true → IsHeldByAnother trace me
   registered : registration ≡ trace.registered me
 
+-- a lock that can be poisoned has one owner
+lock-owned : (needs : Needs) (seen : Word) → needs.is_lock ≡ true → IsRefusableAndFlagged needs seen → IsOwnedAndFlagged seen
+lock-owned needs seen lock stalled =
+    let test : seen.count == 63 ≡ true = ap (λ (b : Bool). if b then seen.count == 63 else true) (sym lock) ∙ stalled.0 in
+    (same_number seen.count 63 test, stalled.1, stalled.2)
+
+-- poison and a shut that find the flag set are blocked
+refusing-blocked : (needs : Needs) (trace : Trace) (places me : ℕ) (seen : Word) (call : WordCall) (held : Bool) → is_poisoning needs.is_lock call ≡ true
+    → IsRefusableAndFlagged needs seen → IsHeldByAnother trace me → held ≡ false → IsBlocked trace places me seen 0 held call
+refusing-blocked needs trace places me seen PoisonLock held poisons stalled other fresh = (refl, lock-owned needs seen poisons stalled, other, fresh)
+refusing-blocked needs trace places me seen Shut held poisons stalled other fresh = (refl, stalled.1, stalled.2, other, fresh)
+refusing-blocked needs trace places me seen call held poisons stalled other fresh = absurd (cc)
+
 -- the call of a place that waits at its stage is blocked
 held-up : (needs : Needs) (trace : Trace) (places me : ℕ) (seen : Word) (registration : Registration) (m : Configuration trace me seen registration) (call : WordCall) (registered : Registration) (back : AfterWalk) (stage : Stage) (events : List Event)
-    → IsUnder needs call registered back stage events → IsLocallyTrue needs registration back stage → IsBlockedAt trace.state me seen stage → (held : Bool) → (seeks_flag stage ≡ true → held ≡ false)
+    → IsUnder needs call registered back stage events → IsLocallyTrue needs registration back stage → IsBlockedAt needs trace.state me seen stage → (held : Bool) → (seeks_flag stage ≡ true → held ≡ false)
     → IsBlocked trace places me seen (word_at (operation_of needs places me stage)) held call
 held-up needs trace places me seen registration m call registered back Quiet events under alone stalled held fresh = absurd stalled
 held-up needs trace places me seen registration m call registered back (ReadLoad reading) events under alone stalled held fresh = absurd stalled
@@ -118,9 +133,9 @@ held-up needs trace places me seen registration m call registered back (FlagExch
     subst (λ (c : WordCall). IsBlocked trace places me seen 0 held c) (sym (leaves-cancels call registered back events under))
     (inr (refl, stalled, m.held stalled, fresh refl, ap is_slot (sym m.registered) ∙ leaving-slot registration back alone.0))
 held-up needs trace places me seen registration m call registered back PoisonLoad events under alone stalled held fresh =
-    subst (λ (c : WordCall). IsBlocked trace places me seen 0 held c) (sym under.0) (refl, stalled, m.held stalled.2, fresh refl)
+    refusing-blocked needs trace places me seen call held under.0 stalled (m.held stalled.2) (fresh refl)
 held-up needs trace places me seen registration m call registered back (PoisonExchange old) events under alone stalled held fresh =
-    subst (λ (c : WordCall). IsBlocked trace places me seen 0 held c) (sym under.0) (refl, stalled, m.held stalled.2, fresh refl)
+    refusing-blocked needs trace places me seen call held under.0 stalled (m.held stalled.2) (fresh refl)
 
 -- the call of a place that waits at its stage has named nothing yet
 none-leaving : (call : WordCall) (registered : Registration) (back : AfterWalk) (events : List Event) → IsLeavingLine call registered back events → events ≡ []
@@ -129,7 +144,7 @@ none-leaving call registered Ends events leaves = absurd leaves
 none-leaving call registered (Takes request) events leaves = leaves.2
 
 none-named : (needs : Needs) (abstract : AbstractState) (me : ℕ) (seen : Word) (call : WordCall) (registered : Registration) (back : AfterWalk) (stage : Stage) (events : List Event)
-    → IsUnder needs call registered back stage events → IsBlockedAt abstract me seen stage → events ≡ []
+    → IsUnder needs call registered back stage events → IsBlockedAt needs abstract me seen stage → events ≡ []
 none-named needs abstract me seen call registered back (Take Tries) events under stalled = absurd stalled
 none-named needs abstract me seen call registered back (Take Awaits) events under stalled = under.1
 none-named needs abstract me seen call registered back (Take (Gives request)) events under stalled = under.2
@@ -142,7 +157,7 @@ none-named needs abstract me seen call registered back stage events under stalle
 -- and it is in a call
 held-in : (needs : Needs) (trace : Trace) (places me : ℕ) (seen : Word) (underway : Option PendingCall) (place : Place) → Configuration trace me seen place.registration
     → IsIn needs underway place → IsFresh underway place.stage → is_quiet place.stage ≡ false → IsLocallyTrue needs place.registration place.back place.stage
-    → IsBlockedAt trace.state me seen place.stage
+    → IsBlockedAt needs trace.state me seen place.stage
     → (u : PendingCall) × (underway ≡ Some u) × (u.events ≡ []) × IsBlocked trace places me seen (word_at (operation_of needs places me place.stage)) u.held u.call
 held-in needs trace places me seen None place m is fresh busy alone stalled = absurd (not-quiet place.stage busy is)
 held-in needs trace places me seen (Some underway) place m is fresh busy alone stalled = (
@@ -153,32 +168,32 @@ held-in needs trace places me seen (Some underway) place m is fresh busy alone s
 )
 
 -- nobody holds the flag where it waits
-waits-free : (abstract : AbstractState) (me : ℕ) (seen : Word) (stage : Stage) → IsBlockedAt abstract me seen stage → is_holder stage ≡ false
-waits-free abstract me seen Quiet stalled = refl
-waits-free abstract me seen (ReadLoad reading) stalled = refl
-waits-free abstract me seen (AcquireLoad ask) stalled = refl
-waits-free abstract me seen (AcquireExchange ask old) stalled = refl
-waits-free abstract me seen (Prepare request old) stalled = refl
-waits-free abstract me seen (Join request old) stalled = refl
-waits-free abstract me seen (ReleaseLoad given) stalled = refl
-waits-free abstract me seen (ReleaseExchange given old) stalled = refl
-waits-free abstract me seen (Take taking) stalled = refl
-waits-free abstract me seen FlagLoad stalled = refl
-waits-free abstract me seen (FlagExchange old) stalled = refl
-waits-free abstract me seen PoisonLoad stalled = refl
-waits-free abstract me seen (PoisonExchange old) stalled = refl
-waits-free abstract me seen Clear stalled = refl
-waits-free abstract me seen stage stalled = absurd stalled
+waits-free : (needs : Needs) (abstract : AbstractState) (me : ℕ) (seen : Word) (stage : Stage) → IsBlockedAt needs abstract me seen stage → is_holder stage ≡ false
+waits-free needs abstract me seen Quiet stalled = refl
+waits-free needs abstract me seen (ReadLoad reading) stalled = refl
+waits-free needs abstract me seen (AcquireLoad ask) stalled = refl
+waits-free needs abstract me seen (AcquireExchange ask old) stalled = refl
+waits-free needs abstract me seen (Prepare request old) stalled = refl
+waits-free needs abstract me seen (Join request old) stalled = refl
+waits-free needs abstract me seen (ReleaseLoad given) stalled = refl
+waits-free needs abstract me seen (ReleaseExchange given old) stalled = refl
+waits-free needs abstract me seen (Take taking) stalled = refl
+waits-free needs abstract me seen FlagLoad stalled = refl
+waits-free needs abstract me seen (FlagExchange old) stalled = refl
+waits-free needs abstract me seen PoisonLoad stalled = refl
+waits-free needs abstract me seen (PoisonExchange old) stalled = refl
+waits-free needs abstract me seen Clear stalled = refl
+waits-free needs abstract me seen stage stalled = absurd stalled
 
 -- a place that waits has no answer to show
-pays-nothing : (abstract : AbstractState) (me : ℕ) (seen : Word) (owed : List (ℕ × ℕ)) (answer_value : ℕ) (stage : Stage) → IsBlockedAt abstract me seen stage
+pays-nothing : (needs : Needs) (abstract : AbstractState) (me : ℕ) (seen : Word) (owed : List (ℕ × ℕ)) (answer_value : ℕ) (stage : Stage) → IsBlockedAt needs abstract me seen stage
     → IsShowing owed answer_value stage → owed ≡ []
-pays-nothing abstract me seen owed answer_value (Take taking) stalled showing = showing
-pays-nothing abstract me seen owed answer_value FlagLoad stalled showing = showing
-pays-nothing abstract me seen owed answer_value (FlagExchange old) stalled showing = showing
-pays-nothing abstract me seen owed answer_value PoisonLoad stalled showing = showing
-pays-nothing abstract me seen owed answer_value (PoisonExchange old) stalled showing = showing
-pays-nothing abstract me seen owed answer_value stage stalled showing = absurd stalled
+pays-nothing needs abstract me seen owed answer_value (Take taking) stalled showing = showing
+pays-nothing needs abstract me seen owed answer_value FlagLoad stalled showing = showing
+pays-nothing needs abstract me seen owed answer_value (FlagExchange old) stalled showing = showing
+pays-nothing needs abstract me seen owed answer_value PoisonLoad stalled showing = showing
+pays-nothing needs abstract me seen owed answer_value (PoisonExchange old) stalled showing = showing
+pays-nothing needs abstract me seen owed answer_value stage stalled showing = absurd stalled
 
 pub waiting : (state : State) (trace : Trace) (me : ℕ) → me < length state.places → Tracks state trace → is_quiet (place_of state me).stage ≡ false
     → next_of (needs_of state.rules) me (place_of state me) (place_of state me).stage (found_by state (operation_at state me)) ≡ HasToWait
@@ -190,7 +205,7 @@ waiting state trace me here tracks busy waits =
     only-stalls (needs_of state.rules) (length state.places) (row_of state) (place_of state) trace.state me here s (place_of state me).stage refl waits in
     let written : written_by operation (found_by state operation) ≡ get_or state.row (word_at operation) 0 =
     sym (updated-at (row_of state) (word_at operation) (written_by operation (found_by state operation))) ∙ ap (λ (r : ℕ → ℕ). r (word_at operation)) only.1 in
-    let apart : s.holder == me + 1 ≡ false = sym (s.stages.one me) ∙ waits-free trace.state me (main_of (row_of state)) (place_of state me).stage only.0 in
+    let apart : s.holder == me + 1 ≡ false = sym (s.stages.one me) ∙ waits-free (needs_of state.rules) trace.state me (main_of (row_of state)) (place_of state me).stage only.0 in
     let free : trace.holder ≢ me + 1 = λ mine.
     let wrong : true ≡ false = sym (number_same (me + 1)) ∙ ap (λ (n : ℕ). n == me + 1) (sym (tracks.holder ∙ mine)) ∙ apart in absurd (cc) in
     let some : (main_of (row_of state)).is_flagged ≡ true → trace.holder ≢ 0 = λ set none.
@@ -201,7 +216,7 @@ waiting state trace me here tracks busy waits =
       free = free;
       clear = λ place due mine.
           let none : s.owed me ≡ [] =
-          pays-nothing trace.state me (main_of (row_of state)) (s.owed me) (s.answer_value me) (place_of state me).stage only.0 (s.stages.showing me) in
+          pays-nothing (needs_of state.rules) trace.state me (main_of (row_of state)) (s.owed me) (s.answer_value me) (place_of state me).stage only.0 (s.stages.showing me) in
           let there : is_in place (s.owed me) ≡ true =
           subst (λ (n : ℕ). is_in place (s.owed n) ≡ true) mine (s.debts.paid_by place due) in
           let wrong : false ≡ true = ap (is_in place) (sym none) ∙ there in absurd (cc);

@@ -3,7 +3,7 @@ use Rattle.std.specs.Prelude.{◌≡◌, ◌≢◌, ℕ, ◌⊎◌, ◌+◌, ◌
 use Rattle.saa_core_spec.specs.Object.{one_if, times}
 use Rattle.saa_word_steps.specs.declared.call.Answer.{Answer}
 use Rattle.saa_word_steps.specs.declared.call.WordCall.{WordCall}
-use Rattle.saa_word_steps.specs.declared.call.WordCall.TheVariants.{Poll, Cancel, PoisonLock}
+use Rattle.saa_word_steps.specs.declared.call.WordCall.TheVariants.{Poll, Cancel, PoisonLock, Shut}
 use Rattle.saa_word_steps.specs.declared.event.Event.{Event}
 use Rattle.saa_word_steps.specs.declared.place.Ask.{Ask}
 use Rattle.saa_word_steps.specs.declared.place.Registration.{Registration}
@@ -15,7 +15,7 @@ use Rattle.saa_word_proofs.specs.Rows.{IsOwnedAndFlagged, main_of, updated}
 use Rattle.saa_word_proofs.specs.Calls.{IsAnswered, asked_by}
 use Rattle.saa_word_proofs.specs.History.{LeadsTo, named, of_place}
 use Rattle.saa_word_proofs.specs.Promises.{WordsAreQuiescent, WordsShow}
-use Rattle.saa_word_proofs.specs.Conservation.{AreOfPermits, ConservesPermits, tally_of}
+use Rattle.saa_word_proofs.specs.Conservation.{AreOfPermits, ConservesPermits, IsTold, is_grant, tally_of}
 use Rattle.saa_word_proofs.specs.Registering.{registration_after_start, is_slot, registration_after, starting_answer}
 use Rattle.saa_word.specs.declared.moves.Move.{Move}
 use Rattle.saa_word.specs.declared.moves.Move.TheVariants.{Start, Go}
@@ -115,7 +115,8 @@ IsHeldByAnother trace me = (trace.holder ≢ 0) × (trace.holder ≢ me + 1)
 
 -- Why a call is blocked whose place has held the flag in it or not, at a step that read the word of this index, out of so many places: a poll reads
 -- its own answer word, and its place is in the line, or its answer is due; a cancel does so where its answer is due, or it reads the main word while
--- it is registered in the line and another place holds the flag; and poison reads the main word, finds one owner, and another place holds the flag.
+-- it is registered in the line and another place holds the flag; and poison reads the main word, finds one owner, and another place holds the flag;
+-- and a shut reads the main word of a semaphore that isn't shut, and another place holds the flag.
 -- A place that has held the flag in its call never waits for the flag again
 abbrev pub IsBlocked : Trace → ℕ → ℕ → Word → (read : ℕ) → (held : Bool) → WordCall → Type 0
 IsBlocked trace places me seen read held Poll = (read ≡ places + me + 1) × ((is_in me trace.state.line || is_some (trace.state.due me)) ≡ true)
@@ -123,10 +124,12 @@ IsBlocked trace places me seen read held Cancel =
     ((read ≡ places + me + 1) × (is_some (trace.state.due me) ≡ true))
     ⊎ ((read ≡ 0) × (seen.is_flagged ≡ true) × IsHeldByAnother trace me × (held ≡ false) × (is_slot (trace.registered me) ≡ true))
 IsBlocked trace places me seen read held PoisonLock = (read ≡ 0) × IsOwnedAndFlagged seen × IsHeldByAnother trace me × (held ≡ false)
+IsBlocked trace places me seen read held Shut =
+    (read ≡ 0) × (seen.is_poisoned ≡ false) × (seen.is_flagged ≡ true) × IsHeldByAnother trace me × (held ≡ false)
 IsBlocked trace places me seen read held _ = ⊥
 
 -- A place that waits is in a call that is blocked and has named no event yet: it waits no more once its call has left the line, taken its answer or
--- poisoned the lock. It doesn't hold the flag, it has shown each answer that it granted, and words and places are as they were
+-- poisoned the lock, or shut the semaphore. It doesn't hold the flag, it has shown each answer that it granted, and words and places are as they were
 pub record IsWaiting (state after : State) (trace : Trace) (me : ℕ) : Type 0 where
   pub blocked : (underway : PendingCall) × (trace.calls me ≡ Some underway) × (underway.events ≡ [])
       × IsBlocked trace (length state.places) me (main_of (row_of state)) after.last_word underway.held underway.call
@@ -140,12 +143,14 @@ WaitsRightly state after trace (Go me) Waits = IsWaiting state after trace me
 WaitsRightly state after trace _ _ = Unit {0}
 
 -- Permits are conserved along a trace: what is held and what was given back are what was withheld, what was got, and what is granted and not
--- taken. Each place whose answer is due or shown has one such grant, and no other has any. No ask finds a semaphore poisoned, and each answer
--- that is taken is a grant
+-- taken. Each place whose grant is due or shown has one such grant, and no other has any. Each answer that is due, shown or taken is a grant, but
+-- once the semaphore is shut, it may say that; it is shut once at most, and only behind that does an ask find it so
 pub record IsConserved (needs : Needs) (trace : Trace) : Type 0 where
   pub balanced : ConservesPermits needs trace.withheld trace.state (tally_of needs trace.withheld trace.history)
   pub pending : (place : ℕ) → times place (tally_of needs trace.withheld trace.history).pending
-      ≡ one_if (is_some (trace.state.due place)) + one_if (is_some (trace.state.shown place))
+      ≡ one_if (is_grant (trace.state.due place)) + one_if (is_grant (trace.state.shown place))
+  pub told : (place value : ℕ) → (trace.state.due place ≡ Some value → IsTold trace.state.poisoned value)
+      × (trace.state.shown place ≡ Some value → IsTold trace.state.poisoned value)
   pub events : AreOfPermits trace.history
 
 -- the permits of a semaphore are

@@ -30,7 +30,7 @@ abbrev pub IsIn : Needs → Option PendingCall → Place → Type 0
 IsIn needs None place = place.stage ≡ Quiet
 IsIn needs (Some underway) place = IsUnder needs underway.call underway.registered place.back place.stage underway.events
 
--- a stage of a place that is to set the flag, or to poison a lock while nobody holds it
+-- a stage of a place that is to set the flag, or to poison a lock or shut a semaphore while nobody holds it
 abbrev pub seeks_flag : Stage → Bool
 seeks_flag FlagLoad = true
 seeks_flag (FlagExchange seen) = true

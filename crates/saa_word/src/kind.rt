@@ -30,7 +30,7 @@ pub enum Kind {
     Unlink,
     /// It leaves the line as its tail, in the main word.
     Tail,
-    /// It looks at the main word to poison a lock, or poisons it.
+    /// It looks at the main word to poison a lock or to shut a semaphore, or does so.
     Poison,
     /// It makes a poisoned lock free.
     Clear,

@@ -1,3 +1,4 @@
 pub mod KeptPlaces
 pub mod NewPlaces
 pub mod Turning
+pub mod Refusals

@@ -3,15 +3,23 @@ use Rattle.std.specs.Prelude.{◌≡◌, ℕ, Bool, false, true, Option, Some, N
 use Rattle.saa_core_spec.specs.declared.polling.Error.{Error}
 use Rattle.saa_core_spec.specs.declared.polling.Error.TheVariants.{Closed}
 use Rattle.saa_core_spec.specs.Errors.{why_none}
+use Rattle.saa_core_spec.specs.Values.{closed_value}
+use Rattle.saa_core_waits.specs.declared.acquire_error.AcquireError.{AcquireError}
+use Rattle.saa_core_waits.specs.declared.acquire_error.AcquireError.TheVariants.{Closed as WasShut}
+
+-- what is asked is granted, or the semaphore was shut
+abbrev pub granted : {A : Type 0} → A → ℕ → Result A AcquireError
+granted value answer = if answer == closed_value then Err WasShut else Ok value
 
 -- one permit is granted
-abbrev pub one_permit : Option ℕ → Unit {0}
-one_permit answer = tt
+abbrev pub one_permit : Option ℕ → Result (Unit {0}) AcquireError
+one_permit None = Ok tt
+one_permit (Some answer) = granted tt answer
 
 -- so many permits are granted, or were more than there are
-abbrev pub many_permits : Option ℕ → Bool
-many_permits None = false
-many_permits (Some value) = true
+abbrev pub many_permits : Option ℕ → Result Bool AcquireError
+many_permits None = Ok false
+many_permits (Some answer) = granted true answer
 
 -- a lock is granted by 0; every other answer says that it was poisoned
 abbrev pub turn : Option ℕ → Bool

@@ -4,7 +4,8 @@ use Rattle.atomic_table.specs.Seated.{TableId}
 use Rattle.saa_core_spec.specs.declared.lock.TryLockError.{TryLockError}
 use Rattle.saa_core_spec.specs.declared.lock.TryLockError.TheVariants.{WouldBlock}
 use Rattle.saa_core_spec.specs.declared.polling.Error.{Error}
-use Rattle.saa_core_spec.specs.Values.{granted_value}
+use Rattle.saa_core_spec.specs.declared.polling.Error.TheVariants.{Closed}
+use Rattle.saa_core_spec.specs.Values.{closed_value, granted_value}
 use Rattle.saa_word_steps.specs.declared.call.Answer.{Answer}
 use Rattle.saa_word_steps.specs.declared.call.WordCall.TheVariants.{Cancel, Poll, Register, Release, Try, TryPoll}
 use Rattle.saa_word_steps.specs.declared.place.Registration.TheVariants.{Idle}
@@ -27,14 +28,15 @@ home_of place = place.seat.table_id
 abbrev pub Rests : Place → Type 0
 Rests place = registered place ≡ Idle
 
--- what a try tells: it was granted, or it would have to wait
+-- what a try tells: it was granted, or it would have to wait. One that finds the semaphore shut tells that, too: who asks at a place is told why
 abbrev pub told_by : Bool → Result (Unit {0}) TryLockError
 told_by true = Ok tt
 told_by false = Err WouldBlock
 
--- the number of what a poll tells
+-- the number of what a poll tells: a grant, or that the semaphore was shut
 abbrev pub number_of : Result (Unit {0}) Error → Result ℕ Error
 number_of (Ok done) = Ok granted_value
+number_of (Err Closed) = Ok closed_value
 number_of (Err error) = Err error
 
 -- a visitor that came for it tried for so many permits

@@ -1,9 +1,9 @@
 -- What the calls of a semaphore are.
-use Rattle.std.specs.Prelude.{◌≡◌, ℕ, ◌-◌, ◌≤◌, ◌⊎◌, min, Bool, true, Option, Some, None, Result, Ok, Err}
+use Rattle.std.specs.Prelude.{◌≡◌, ℕ, ◌-◌, ◌≤◌, ◌==◌, ◌⊎◌, min, Bool, true, false, Option, Some, None, Result, Ok, Err}
 use Rattle.saa_core_spec.specs.declared.polling.Error.{Error}
 use Rattle.saa_word_steps.specs.declared.call.Answer.{Answer}
 use Rattle.saa_word_steps.specs.declared.call.WordCall.{WordCall}
-use Rattle.saa_word_steps.specs.declared.call.WordCall.TheVariants.{Release, Try}
+use Rattle.saa_word_steps.specs.declared.call.WordCall.TheVariants.{IsShut, Release, Try}
 use Rattle.saa_word_steps.specs.declared.rules.Rules.TheVariants.{Permits}
 use Rattle.saa_word_threads.specs.declared.receipt.Receipt.{Receipt}
 use Rattle.saa_word_threads.specs.declared.semaphore.SemaphoreOf.{SemaphoreOf}
@@ -14,6 +14,11 @@ use Rattle.saa_word_threads.specs.Semaphores.{IsVisitedOnce, table_of}
 use Rattle.saa_word_lock_free.specs.Calls.{IsAcquired as IsAcquiredBy, IsAnswered as IsAnsweredBy, IsReceivedBy}
 use Rattle.saa_word_lock_free.specs.OfSemaphore.{calls_of}
 use Rattle.saa_word_lock_free.specs.Pendings.{IsToldLater}
+use Rattle.saa_word_lock_free.specs.Forms.{FormState, WasFull}
+use Rattle.saa_core_spec.specs.Values.{closed_value}
+use Rattle.saa_core_waits.specs.declared.acquire_error.AcquireError.{AcquireError}
+use Rattle.saa_core_waits.specs.declared.acquire_error.AcquireError.TheVariants.{Closed, Full}
+use Rattle.saa_word_threads.specs.declared.place.Place.{Place}
 
 module _ {max : ℕ} where
   -- a visitor that came for it made a call, which is done or not; and this is what it has seen
@@ -40,12 +45,22 @@ module _ {max : ℕ} where
 
   -- it was granted
   abbrev pub IsGranted : SemaphoreOf max → ℕ → Type 0
-  IsGranted semaphore count = (value : ℕ) × IsAnswered semaphore count (Ok value)
+  IsGranted semaphore count = (value : ℕ) × (value == closed_value ≡ false) × IsAnswered semaphore count (Ok value)
+
+  -- it was told that the semaphore was shut: by its answer, or by a look where it got no place
+  abbrev pub IsToldShut : SemaphoreOf max → ℕ → Type 0
+  IsToldShut semaphore count = IsAnswered semaphore count (Ok closed_value) ⊎ IsDone semaphore IsShut true
+
+  -- why a call for so many permits has none: all places were out of the pool, or the semaphore was shut
+  abbrev pub WasRefused : FormState (SemaphoreOf max) → ℕ → AcquireError → Type 0
+  WasRefused form count Full = WasFull Place form
+  WasRefused form count Closed = IsToldShut form.word count
 
   -- so many permits were granted: to a try, to a call that waited for them, timed or not, or to a future
   abbrev pub WasGranted : SemaphoreOf max → ℕ → Type 0
   WasGranted semaphore count =
-      IsDone semaphore (Try count) true ⊎ (IsGranted semaphore count ⊎ ((value : ℕ) × IsToldLater (λ asked. asked ≤ max) (calls_of semaphore) count (Some value)))
+      IsDone semaphore (Try count) true ⊎ (IsGranted semaphore count ⊎ ((value : ℕ) × (value == closed_value ≡ false)
+      × IsToldLater (λ asked. asked ≤ max) (calls_of semaphore) count (Some value)))
 
   -- so many permits were given back: a release was made, which was done, or found fewer out
   abbrev pub TookBack : SemaphoreOf max → ℕ → Type 0
@@ -55,7 +70,12 @@ module _ {max : ℕ} where
 abbrev pub opened : ℕ → ℕ → ℕ → About
 opened max permits places = record { rules = Permits max; withheld = min (max - permits) max; places = places }
 
--- what a timed call tells: a grant, or that its time is up
+-- whether a timed call was answered that the semaphore was shut
+abbrev pub is_closed_answer : Result ℕ Error → Bool
+is_closed_answer (Ok value) = value == closed_value
+is_closed_answer (Err error) = false
+
+-- what a timed call tells that wasn't: a grant, or that its time is up
 abbrev pub one_in_time : Result ℕ Error → Option (Unit {0})
 one_in_time (Ok value) = Some tt
 one_in_time (Err error) = None

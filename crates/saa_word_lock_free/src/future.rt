@@ -5,7 +5,7 @@ ghost use Rattle.std.specs.Prelude.{◌≡◌};
 use crate::lock::Lock;
 pub use crate::lock_api::{MutexFuture, ReadFuture, WriteFuture};
 use crate::semaphore::SemaphoreOf;
-use crate::waiting::GRANTED;
+use crate::waiting::{CLOSED, GRANTED};
 use saa_core_spec::request::Full;
 use saa_core_waits::AcquireError;
 pub use saa_core_waits::{Acquiring, AcquiringWith, AnswerReader, PollPager};
@@ -22,7 +22,7 @@ pub struct ManyPermits;
 #[derive(Drop)]
 pub struct Turn;
 
-/// The future of `SemaphoreOf::acquire_async`: `Ok(())` once one permit is granted.
+/// The future of `SemaphoreOf::acquire_async`: `Ok(())` once one permit is granted, `Closed` where the semaphore is or was shut.
 pub type AcquireOf<'s, R, const MAX: usize> = Acquiring<'s, SemaphoreOf<R, MAX>, OnePermit>;
 
 /// The future of `SemaphoreOf::acquire_async_with`.
@@ -70,7 +70,6 @@ pub type ShareFuture<'s, R> = LockFuture<'s, R>;
 pub type ShareFutureWith<'s, R, F> = LockFutureWith<'s, R, F>;
 
 impl AnswerReader for OnePermit {
-    ghost use Rattle.std.specs.Prelude.{Ok};
     ghost use Rattle.saa_core_waits.specs.declared.acquire_error.AcquireError.TheVariants as Why;
     ghost use Rattle.saa_word_lock_free.specs.Answers.{one_permit};
 
@@ -78,13 +77,16 @@ impl AnswerReader for OnePermit {
 
     type Error = AcquireError;
 
-    ghost read = { λ answer. Ok (one_permit answer) };
+    ghost read = { one_permit };
 
     ghost full = { Why.Full };
 
-    /// Nothing: no registration for one permit is false.
-    fn read(_answer: Option<u8>) -> Result<(), AcquireError> {
-        Ok(())
+    /// Nothing but that the semaphore was shut: no registration for one permit is false.
+    fn read(answer: Option<u8>) -> Result<(), AcquireError> {
+        match answer {
+            Some(value) if value == CLOSED => Err(AcquireError::Closed),
+            _ => Ok(()),
+        }
     }
 
     fn full() -> AcquireError {
@@ -93,7 +95,6 @@ impl AnswerReader for OnePermit {
 }
 
 impl AnswerReader for ManyPermits {
-    ghost use Rattle.std.specs.Prelude.{Ok};
     ghost use Rattle.saa_core_waits.specs.declared.acquire_error.AcquireError.TheVariants as Why;
     ghost use Rattle.saa_word_lock_free.specs.Answers.{many_permits};
 
@@ -101,13 +102,17 @@ impl AnswerReader for ManyPermits {
 
     type Error = AcquireError;
 
-    ghost read = { λ answer. Ok (many_permits answer) };
+    ghost read = { many_permits };
 
     ghost full = { Why.Full };
 
-    /// Whether they are granted: each answer is a grant.
+    /// Whether they are granted: each answer is a grant, or that the semaphore was shut.
     fn read(answer: Option<u8>) -> Result<bool, AcquireError> {
-        Ok(answer.is_some())
+        match answer {
+            Some(value) if value == CLOSED => Err(AcquireError::Closed),
+            Some(_value) => Ok(true),
+            None => Ok(false),
+        }
     }
 
     fn full() -> AcquireError {

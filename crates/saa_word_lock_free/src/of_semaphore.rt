@@ -3,7 +3,7 @@
 ghost use Rattle.std.specs.Prelude.{◌≡◌};
 ghost use Rattle.saa_word_lock_free.specs.OfSemaphore.{number_of, told_by};
 
-use crate::waiting::GRANTED;
+use crate::waiting::{CLOSED, GRANTED};
 use crate::word_form::WordForm;
 use futures::task::{Context, Poll};
 use saa_core_waits::{Deadline, SpinPolicy};
@@ -135,6 +135,7 @@ fn number(polled: Result<(), Error>) -> Result<u8, Error>
 {
     match polled {
         Ok(()) => Ok(GRANTED),
+        Err(Error::Closed) => Ok(CLOSED),
         Err(error) => Err(error),
     }
 }

@@ -8,6 +8,7 @@ ghost use Rattle.saa_word_lock_free.specs.SemaphoreCalls.{WasGranted};
 use crate::form::Form;
 use crate::semaphore::SemaphoreOf;
 use crate::tasks::Pending;
+use crate::waiting::CLOSED;
 use futures::task::{Context, Poll};
 use saa_core_guards::Owed;
 pub use saa_core_guards::permit::{Holder, InTime, PermitFrom};
@@ -75,9 +76,14 @@ impl<R: Wait + Clock + Drop, const MAX: usize> RawSemaphoreUntil for Form<R, Wor
         // A semaphore has one permit at least, which its type says.
         let _bounded = self.word();
         match self.acquire_by(1, deadline) {
-            Ok(Ok(_value)) => Ok(Some(())),
+            Ok(Ok(value)) => {
+                if value == CLOSED {
+                    return Err(AcquireError::Closed);
+                }
+                Ok(Some(()))
+            }
             Ok(Err(_late)) => Ok(None),
-            Err(Full) => Err(AcquireError::Full),
+            Err(Full) => Err(self.why_full()),
         }
     }
 
@@ -86,9 +92,14 @@ impl<R: Wait + Clock + Drop, const MAX: usize> RawSemaphoreUntil for Form<R, Wor
             return Ok(Some(false));
         }
         match self.acquire_by(count, deadline) {
-            Ok(Ok(_value)) => Ok(Some(true)),
+            Ok(Ok(value)) => {
+                if value == CLOSED {
+                    return Err(AcquireError::Closed);
+                }
+                Ok(Some(true))
+            }
             Ok(Err(_late)) => Ok(None),
-            Err(Full) => Err(AcquireError::Full),
+            Err(Full) => Err(self.why_full()),
         }
     }
 }
@@ -113,9 +124,14 @@ impl<R: Wait + Drop, const MAX: usize> RawSemaphoreAsync for Form<R, Word<MAX>> 
         }
         let (told, _has_joined) = self.advance(pending, cx);
         match told {
-            Poll::Ready(Ok(Some(_value))) => Poll::Ready(Ok(true)),
+            Poll::Ready(Ok(Some(value))) => {
+                if value == CLOSED {
+                    return Poll::Ready(Err(AcquireError::Closed));
+                }
+                Poll::Ready(Ok(true))
+            }
             Poll::Ready(Ok(None)) => Poll::Ready(Ok(false)),
-            Poll::Ready(Err(Full)) => Poll::Ready(Err(AcquireError::Full)),
+            Poll::Ready(Err(Full)) => Poll::Ready(Err(self.why_full())),
             Poll::Pending => Poll::Pending,
         }
     }
@@ -124,7 +140,7 @@ impl<R: Wait + Drop, const MAX: usize> RawSemaphoreAsync for Form<R, Word<MAX>> 
 impl<R: Wait + Drop, const MAX: usize> Form<R, Word<MAX>> {
     /// Takes one permit as [`Self::acquire_sync`] does, and gives it back when what is returned goes.
     ///
-    /// `Full`: it would have to wait, and no place is in; nothing is changed.
+    /// `Closed`: the semaphore is shut, or was while this waited. `Full`: it would have to wait, and no place is in. Both change nothing.
     pub fn acquire_permit(&self) -> Result<PermitOf<'_, R, MAX>, AcquireError>
         ensures semaphore { IfOk result (λ permit. permit.holder.now ≡ self.now) }
         ensures count { IfOk result (λ permit. permit.count ≡ 1) }
@@ -135,8 +151,8 @@ impl<R: Wait + Drop, const MAX: usize> Form<R, Word<MAX>> {
 
     /// Takes `count` permits as [`Self::acquire_many_sync`] does, and gives them back when what is returned goes.
     ///
-    /// `Ok(None)` comes at once, exactly where the count is above [`Self::MAX_PERMITS`]. `Full`: it would have to wait, and no place is in. Both change
-    /// nothing.
+    /// `Ok(None)` comes at once, exactly where the count is above [`Self::MAX_PERMITS`]. `Closed`: the semaphore is shut, or was while this waited. `Full`:
+    /// it would have to wait, and no place is in. All three change nothing.
     pub fn acquire_permits(
         &self,
         count: usize,
@@ -151,7 +167,7 @@ impl<R: Wait + Drop, const MAX: usize> Form<R, Word<MAX>> {
 
     /// Takes one permit as [`Self::try_acquire`] does, and gives it back when what is returned goes; never waits for it.
     ///
-    /// `None`: no permit is available, or there is a waiter; nothing is changed.
+    /// `None`: no permit is available, or there is a waiter, or the semaphore is shut; nothing is changed.
     pub fn try_acquire_permit(&self) -> Option<PermitOf<'_, R, MAX>>
         ensures semaphore { IfSome result (λ permit. permit.holder.now ≡ self.now) }
         ensures count { IfSome result (λ permit. permit.count ≡ 1) }
@@ -162,7 +178,7 @@ impl<R: Wait + Drop, const MAX: usize> Form<R, Word<MAX>> {
 
     /// Takes `count` permits as [`Self::try_acquire_many`] does, and gives them back when what is returned goes; never waits for them.
     ///
-    /// `None`: they aren't available, or there is a waiter, or the count is above [`Self::MAX_PERMITS`]; nothing is changed.
+    /// `None`: they aren't available, or there is a waiter, or the semaphore is shut, or the count is above [`Self::MAX_PERMITS`]; nothing is changed.
     pub fn try_acquire_permits(&self, count: usize) -> Option<PermitOf<'_, R, MAX>>
         ensures semaphore { IfSome result (λ permits. permits.holder.now ≡ self.now) }
         ensures count { IfSome result (λ permits. permits.count ≡ count) }

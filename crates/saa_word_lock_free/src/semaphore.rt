@@ -3,13 +3,12 @@
 //! Each call is a call of the word's semaphore (`saa_word_threads::semaphore`), by a visitor or at a place of the pool. Calls that end in `_witnessed` hand
 //! out a receipt of the one history with their answer; the others make the same calls, and keep none.
 
-ghost use Rattle.std.specs.Prelude.{◌≡◌, ◌++◌, ◌↔◌, ◌≤◌, ◌<◌, ◌||◌, ◌⊎◌, ◌-◌, true, false, IfErr, IfOk, IsTrue, Ok, Some};
+ghost use Rattle.std.specs.Prelude.{◌≡◌, ◌++◌, ◌↔◌, ◌≤◌, ◌<◌, ◌||◌, ◌⊎◌, ◌-◌, ℕ, true, false, IfErr, IfOk, IsTrue, Ok, Some};
 ghost use Rattle.saa_core_spec.specs.declared.request.Request.TheVariants.{Permits};
 ghost use Rattle.saa_word_lock_free.specs.Forms.{IsRefusedBy, TakesAt, WasFull};
-ghost use Rattle.saa_core_waits.specs.declared.acquire_error.AcquireError.TheVariants as Why;
 ghost use Rattle.saa_word_steps.specs.declared.call.Answer.{Answer};
 ghost use Rattle.saa_word_steps.specs.declared.call.Answer.TheVariants.{Number};
-ghost use Rattle.saa_word_steps.specs.declared.call.WordCall.TheVariants.{Available, Release, Try};
+ghost use Rattle.saa_word_steps.specs.declared.call.WordCall.TheVariants.{Available, IsShut, Release, Shut, Try};
 ghost use Rattle.saa_word_threads.specs.Dealt.{numbers};
 ghost use Rattle.saa_word_threads.specs.Public.{is_yes};
 ghost use Rattle.saa_word_threads.specs.Receipts.{IsLedOn, IsReceiptAt, said};
@@ -17,7 +16,7 @@ ghost use Rattle.saa_word_threads.specs.Semaphores.{IsVisitedOnce, about_of, tab
 ghost use Rattle.saa_word_lock_free.specs.Calls.{IsReceivedBy};
 ghost use Rattle.saa_word_lock_free.specs.OfSemaphore.{calls_of};
 ghost use Rattle.saa_word_lock_free.specs.Registered.{ask_of, is_busy, is_yes as was_made, mode_of, unregistered};
-ghost use Rattle.saa_word_lock_free.specs.SemaphoreCalls.{IsAcquired, IsDone, IsDoneWith, IsGranted, IsRead, IsReadWith, opened};
+ghost use Rattle.saa_word_lock_free.specs.SemaphoreCalls.{IsAcquired, IsAnswered, IsDone, IsDoneWith, IsGranted, IsRead, IsReadWith, WasRefused, opened};
 
 use crate::form::{Form, NoPlace};
 use crate::future::{
@@ -26,6 +25,7 @@ use crate::future::{
 use crate::pager::{Pager, PagerForm};
 use crate::registration::Registration;
 use crate::tasks::Pending;
+use crate::waiting::CLOSED;
 use crate::word_form::WordForm;
 use saa_core_spec::request::Full;
 pub use saa_core_waits::AcquireError;
@@ -144,6 +144,79 @@ impl<R: Wait + Drop, const MAX: usize> Form<R, Word<MAX>> {
         (available, receipt)
     }
 
+    /// Whether it was shut: no permit is taken from it any more, however many are available. Costs two loads.
+    pub fn is_shut(&self) -> bool
+        ensures { IsDone self.now.word IsShut result }
+    {
+        let (is_shut, _visitor) = self.word().is_shut_once();
+        is_shut
+    }
+
+    /// As [`Self::is_shut`], with a receipt.
+    pub fn is_shut_witnessed(&self) -> (bool, Receipt)
+        ensures { IsDoneWith self.now.word IsShut result.0 result.1 }
+    {
+        let word = self.word();
+        let (is_shut, mut visitor) = word.is_shut_once();
+        let receipt = word.receipt_by(&mut visitor);
+        (is_shut, receipt)
+    }
+
+    /// Shuts the semaphore for good: every waiter is answered `Closed`, and so is every call that would take a permit from then on.
+    ///
+    /// `false` comes where it was shut before, and changes nothing. Tries are refused. Permits that are out, and grants that weren't
+    /// told yet, stay as they are, and come back by [`Self::release_many`] as ever. It isn't the other side of [`Self::is_closed`], which says that
+    /// no permit is available. It yields while another call works on the queue. Costs O(waiters).
+    pub fn shut(&self) -> bool
+        ensures { IsDone self.now.word Shut result }
+    {
+        let (is_done, _visitor) = self.word().shut_once(self.rt());
+        is_done
+    }
+
+    /// As [`Self::shut`], with a receipt.
+    pub fn shut_witnessed(&self) -> (bool, Receipt)
+        ensures { IsDoneWith self.now.word Shut result.0 result.1 }
+    {
+        let word = self.word();
+        let (is_done, mut visitor) = word.shut_once(self.rt());
+        let receipt = word.receipt_by(&mut visitor);
+        (is_done, receipt)
+    }
+
+    // What a call for so many permits tells: a grant, or why there is none.
+    pub(crate) fn read_grant(
+        &self,
+        count: usize,
+        acquired: Result<u8, Full>,
+    ) -> Result<(), AcquireError>
+        requires answered { IfOk acquired (λ value. IsAnswered self.now.word count (Ok value)) }
+        requires full { IfErr acquired (λ full. WasFull Place self.now) }
+        ensures granted { IfOk result (λ done. IsGranted self.now.word count) }
+        ensures refused { IfErr result (WasRefused self.now count) }
+    {
+        let value = match acquired {
+            Ok(value) => value,
+            Err(Full) => return Err(self.why_full()),
+        };
+        if value == CLOSED {
+            return Err(AcquireError::Closed);
+        }
+        Ok(())
+    }
+
+    // Why a call has no permit that got no place: the semaphore is shut, or it would have to wait.
+    pub(crate) fn why_full(&self) -> AcquireError
+        requires { WasFull Place self.now }
+        ensures { (count : ℕ) → WasRefused self.now count result }
+    {
+        if self.is_shut() {
+            AcquireError::Closed
+        } else {
+            AcquireError::Full
+        }
+    }
+
     /// Takes one permit if there is no waiter and one is available; see [`Self::try_acquire_many`].
     #[inline(always)]
     pub fn try_acquire(&self) -> bool
@@ -154,7 +227,7 @@ impl<R: Wait + Drop, const MAX: usize> Form<R, Word<MAX>> {
 
     /// Takes `count` permits if there is no waiter and they are available; never waits for them. Wakes no waiter.
     ///
-    /// A count above [`Self::MAX_PERMITS`] is never granted. 0 permits are refused too while there is a waiter.
+    /// A count above [`Self::MAX_PERMITS`] is never granted. 0 permits are refused too while there is a waiter, and where it was shut.
     /// A `false` changes nothing.
     #[inline(always)]
     pub fn try_acquire_many(&self, count: usize) -> bool
@@ -206,43 +279,43 @@ impl<R: Wait + Drop, const MAX: usize> Form<R, Word<MAX>> {
 
     /// Takes one permit. Where it must wait it takes a place, looks there as its spin policy says, and then waits in the queue.
     ///
-    /// `Full`: it would have to wait, and no place is in; nothing is changed. Nothing stays registered either way.
+    /// `Closed`: the semaphore is shut, or was while this waited. `Full`: it would have to wait, and no place is in. Neither error changes anything,
+    /// and nothing stays registered in any case.
     #[inline(always)]
     pub fn acquire_sync(&self) -> Result<(), AcquireError>
         ensures granted { IfOk result (λ done. IsGranted self.now.word 1) }
-        ensures full { IfErr result (λ error. (error ≡ Why.Full) × WasFull Place self.now) }
+        ensures refused { IfErr result (WasRefused self.now 1) }
     {
         // A semaphore has one permit at least, which its type says.
         let _bounded = self.word();
-        match self.acquire(1) {
-            Ok(_value) => Ok(()),
-            Err(Full) => Err(AcquireError::Full),
-        }
+        let acquired = self.acquire(1);
+        self.read_grant(1, acquired)
     }
 
     /// Takes `count` permits, all at once. Where it must wait it takes a place, looks there as its spin policy says, and then waits in the queue.
     ///
-    /// `Ok(true)`: they are granted. `Ok(false)` comes at once, exactly where the count is above [`Self::MAX_PERMITS`]. `Full`: it would have to wait, and no
-    /// place is in. The last two change nothing. Nothing stays registered in any case.
+    /// `Ok(true)`: they are granted. `Ok(false)` comes at once, exactly where the count is above [`Self::MAX_PERMITS`]. `Closed`: the semaphore is shut, or
+    /// was while this waited. `Full`: it would have to wait, and no place is in. The last three change nothing. Nothing stays registered in any case.
     #[inline(always)]
     pub fn acquire_many_sync(&self, count: usize) -> Result<bool, AcquireError>
         ensures granted { IfOk result (λ is_granted. is_granted ≡ true → IsGranted self.now.word count) }
-        ensures full { IfErr result (λ error. (error ≡ Why.Full) × WasFull Place self.now) }
+        ensures refused { IfErr result (WasRefused self.now count) }
         ensures answer { IfOk result (λ is_granted. IsTrue is_granted ↔ (count ≤ MAX)) }
         ensures too_many { MAX < count → result ≡ Ok false }
     {
         if count > MAX {
             return Ok(false);
         }
-        match self.acquire(count) {
-            Ok(_value) => Ok(true),
-            Err(Full) => Err(AcquireError::Full),
+        let acquired = self.acquire(count);
+        match self.read_grant(count, acquired) {
+            Ok(()) => Ok(true),
+            Err(why) => Err(why),
         }
     }
 
     /// As [`Self::acquire_many_sync`], with a receipt of what the call's visitor or its place has seen.
     ///
-    /// An error is the witness that all places were out of the pool as it looked.
+    /// The number is 0 for a grant, and 2 where the semaphore is or was shut. An error is the witness that all places were out of the pool as it looked.
     pub fn acquire_many_witnessed(
         &self,
         count: usize,
@@ -261,14 +334,12 @@ impl<R: Wait + Drop, const MAX: usize> Form<R, Word<MAX>> {
     pub fn acquire_sync_with<F: FnOnce() + Drop>(&self, begin_wait: F) -> Result<(), AcquireError>
         requires { F.pre begin_wait }
         ensures granted { IfOk result (λ done. IsGranted self.now.word 1) }
-        ensures full { IfErr result (λ error. (error ≡ Why.Full) × WasFull Place self.now) }
+        ensures refused { IfErr result (WasRefused self.now 1) }
     {
         // A semaphore has one permit at least, which its type says.
         let _bounded = self.word();
-        match self.acquire_with(1, begin_wait) {
-            Ok(_value) => Ok(()),
-            Err(Full) => Err(AcquireError::Full),
-        }
+        let acquired = self.acquire_with(1, begin_wait);
+        self.read_grant(1, acquired)
     }
 
     /// Takes `count` permits as [`Self::acquire_many_sync`] does, and calls `begin_wait` where it joins the queue, as [`Self::acquire_sync_with`] does.
@@ -279,16 +350,17 @@ impl<R: Wait + Drop, const MAX: usize> Form<R, Word<MAX>> {
     ) -> Result<bool, AcquireError>
         requires { F.pre begin_wait }
         ensures granted { IfOk result (λ is_granted. is_granted ≡ true → IsGranted self.now.word count) }
-        ensures full { IfErr result (λ error. (error ≡ Why.Full) × WasFull Place self.now) }
+        ensures refused { IfErr result (WasRefused self.now count) }
         ensures answer { IfOk result (λ is_granted. IsTrue is_granted ↔ (count ≤ MAX)) }
         ensures too_many { MAX < count → result ≡ Ok false }
     {
         if count > MAX {
             return Ok(false);
         }
-        match self.acquire_with(count, begin_wait) {
-            Ok(_value) => Ok(true),
-            Err(Full) => Err(AcquireError::Full),
+        let acquired = self.acquire_with(count, begin_wait);
+        match self.read_grant(count, acquired) {
+            Ok(()) => Ok(true),
+            Err(why) => Err(why),
         }
     }
 
@@ -350,7 +422,7 @@ impl<R: Wait + Drop, const MAX: usize> Form<R, Word<MAX>> {
 
     /// Registers a pager for `count` permits, to be polled as sync or as async.
     ///
-    /// `Ok(true)`: it was granted at once, or waits, last in the queue. `Ok(false)`: the pager is registered already, here or elsewhere, or the count is above
+    /// `Ok(true)`: it was answered at once, granted or `Closed`, or waits, last in the queue. `Ok(false)`: the pager is registered already, here or elsewhere, or the count is above
     /// [`Self::MAX_PERMITS`]. `Full`: it would have to wait, and no place is in. All but `Ok(true)` change nothing.
     ///
     /// Where the pager is cancelled, a waiter leaves the queue, and those behind it are granted while they fit; what was granted and not
@@ -442,9 +514,9 @@ impl<const MAX: usize> PagerForm for Word<MAX> {
 
     ghost answers = { λ value is. is_no_fault (value == 2) };
 
-    /// 2 says that the semaphore was shut, which no call of this form does yet; every other value is a grant.
+    /// 2 says that the semaphore was shut; every other value is a grant.
     fn value(value: u8) -> Result<(), Error> {
-        if value == 2 {
+        if value == CLOSED {
             return Err(Error::Closed);
         }
         Ok(())

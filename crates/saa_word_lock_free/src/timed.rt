@@ -5,13 +5,12 @@ ghost use Rattle.saa_core_guards.specs.Permits.{IfGranted};
 ghost use Rattle.saa_core_spec.specs.declared.lock.Mode.TheVariants.{Exclusive, Shared};
 ghost use Rattle.saa_core_spec.specs.declared.polling.Error.{Error};
 ghost use Rattle.saa_word_lock_free.specs.Forms.{IsRefusedBy, WasFull};
-ghost use Rattle.saa_core_waits.specs.declared.acquire_error.AcquireError.TheVariants as Why;
 ghost use Rattle.saa_word_lock_free.specs.LockCalls.{IsAcquired as IsAcquiredIn, IsAnswered as IsAnsweredIn, in_time};
-ghost use Rattle.saa_word_lock_free.specs.SemaphoreCalls.{IsAcquired, IsAnswered, WasGranted, many_in_time, one_in_time};
+ghost use Rattle.saa_word_lock_free.specs.SemaphoreCalls.{IsAcquired, IsAnswered, WasGranted, WasRefused, is_closed_answer, many_in_time, one_in_time};
 
 use crate::form::{Form, NoPlace};
 use crate::permit::{InTime, PermitFrom, PermitOf};
-use crate::waiting::GRANTED;
+use crate::waiting::{CLOSED, GRANTED};
 use saa_core_spec::request::Full;
 use saa_core_waits::{AcquireError, Deadline};
 use saa_word_threads::lock::{Error, Lock as LockWord, Mode, Place as LockPlace};
@@ -24,18 +23,18 @@ impl<R: Wait + Clock + Drop, const MAX: usize> Form<R, SemaphoreWord<MAX>> {
     /// Takes one permit, and waits for it in the queue at most so long.
     ///
     /// `Ok(Some(()))`: it is granted. `Ok(None)`: time is up, and nothing is registered or taken; those behind are granted while they fit. `Full` comes at
-    /// once, where it would have to wait and no place is in.
+    /// once, where it would have to wait and no place is in. `Closed`: the semaphore is shut, or was while this waited; nothing is registered or taken.
     pub fn acquire_sync_for(&self, duration: Duration) -> Result<Option<()>, AcquireError>
-        ensures called { IfOk result (λ told. (answer : Result ℕ Error) × (told ≡ one_in_time answer) × IsAnswered self.now.word 1 answer) }
-        ensures full { IfErr result (λ error. (error ≡ Why.Full) × WasFull SemaphorePlace self.now) }
+        ensures called { IfOk result (λ told. (answer : Result ℕ Error) × (told ≡ one_in_time answer) × (is_closed_answer answer ≡ false) × IsAnswered self.now.word 1 answer) }
+        ensures refused { IfErr result (WasRefused self.now 1) }
     {
         self.one_by(Deadline::after(self.rt(), duration))
     }
 
     /// Takes one permit as [`Self::acquire_sync_for`] does, and waits for it until this instant.
     pub fn acquire_sync_until(&self, deadline: Instant) -> Result<Option<()>, AcquireError>
-        ensures called { IfOk result (λ told. (answer : Result ℕ Error) × (told ≡ one_in_time answer) × IsAnswered self.now.word 1 answer) }
-        ensures full { IfErr result (λ error. (error ≡ Why.Full) × WasFull SemaphorePlace self.now) }
+        ensures called { IfOk result (λ told. (answer : Result ℕ Error) × (told ≡ one_in_time answer) × (is_closed_answer answer ≡ false) × IsAnswered self.now.word 1 answer) }
+        ensures refused { IfErr result (WasRefused self.now 1) }
     {
         self.one_by(Deadline::At(deadline))
     }
@@ -44,14 +43,15 @@ impl<R: Wait + Clock + Drop, const MAX: usize> Form<R, SemaphoreWord<MAX>> {
     ///
     /// `Ok(Some(true))`: they are granted. `Ok(Some(false))` comes at once, exactly where the count is above
     /// [`Self::MAX_PERMITS`]. `Ok(None)`: time is up, and nothing is registered or taken; those behind are granted while they fit.
-    /// `Full` comes at once, where it would have to wait and no place is in.
+    /// `Full` comes at once, where it would have to wait and no place is in. `Closed`: the semaphore is shut, or was while this waited; nothing is
+    /// registered or taken.
     pub fn acquire_many_sync_for(
         &self,
         count: usize,
         duration: Duration,
     ) -> Result<Option<bool>, AcquireError>
-        ensures full { IfErr result (λ error. (error ≡ Why.Full) × WasFull SemaphorePlace self.now) }
-        ensures called { count ≤ MAX → IfOk result (λ told. (answer : Result ℕ Error) × (told ≡ many_in_time answer) × IsAnswered self.now.word count answer) }
+        ensures refused { IfErr result (WasRefused self.now count) }
+        ensures called { count ≤ MAX → IfOk result (λ told. (answer : Result ℕ Error) × (told ≡ many_in_time answer) × (is_closed_answer answer ≡ false) × IsAnswered self.now.word count answer) }
         ensures answer { IfOk result (λ told. IfSome told (λ is_granted. IsTrue is_granted ↔ (count ≤ MAX))) }
         ensures too_many { MAX < count → result ≡ Ok (Some false) }
     {
@@ -64,8 +64,8 @@ impl<R: Wait + Clock + Drop, const MAX: usize> Form<R, SemaphoreWord<MAX>> {
         count: usize,
         deadline: Instant,
     ) -> Result<Option<bool>, AcquireError>
-        ensures full { IfErr result (λ error. (error ≡ Why.Full) × WasFull SemaphorePlace self.now) }
-        ensures called { count ≤ MAX → IfOk result (λ told. (answer : Result ℕ Error) × (told ≡ many_in_time answer) × IsAnswered self.now.word count answer) }
+        ensures refused { IfErr result (WasRefused self.now count) }
+        ensures called { count ≤ MAX → IfOk result (λ told. (answer : Result ℕ Error) × (told ≡ many_in_time answer) × (is_closed_answer answer ≡ false) × IsAnswered self.now.word count answer) }
         ensures answer { IfOk result (λ told. IfSome told (λ is_granted. IsTrue is_granted ↔ (count ≤ MAX))) }
         ensures too_many { MAX < count → result ≡ Ok (Some false) }
     {
@@ -122,7 +122,8 @@ impl<R: Wait + Clock + Drop, const MAX: usize> Form<R, SemaphoreWord<MAX>> {
         PermitFrom::acquire_until(self, count, Deadline::At(deadline))
     }
 
-    /// As [`Self::acquire_many_sync_until`], with a receipt of what the call's visitor or its place has seen. `NotReady`: time is up.
+    /// As [`Self::acquire_many_sync_until`], with a receipt of what the call's visitor or its place has seen. `NotReady`: time is up. The number is 0
+    /// for a grant, and 2 where the semaphore is or was shut.
     pub fn acquire_many_witnessed_until(
         &self,
         count: usize,
@@ -137,21 +138,26 @@ impl<R: Wait + Clock + Drop, const MAX: usize> Form<R, SemaphoreWord<MAX>> {
 
     // One permit, by this time.
     fn one_by(&self, deadline: Deadline) -> Result<Option<()>, AcquireError>
-        ensures called { IfOk result (λ told. (answer : Result ℕ Error) × (told ≡ one_in_time answer) × IsAnswered self.now.word 1 answer) }
-        ensures full { IfErr result (λ error. (error ≡ Why.Full) × WasFull SemaphorePlace self.now) }
+        ensures called { IfOk result (λ told. (answer : Result ℕ Error) × (told ≡ one_in_time answer) × (is_closed_answer answer ≡ false) × IsAnswered self.now.word 1 answer) }
+        ensures refused { IfErr result (WasRefused self.now 1) }
     {
         // A semaphore has one permit at least, which its type says.
         let _bounded = self.word();
         match self.acquire_by(1, deadline) {
-            Ok(answer) => Ok(one_in_time(answer)),
-            Err(Full) => Err(AcquireError::Full),
+            Ok(answer) => {
+                if is_closed(answer) {
+                    return Err(AcquireError::Closed);
+                }
+                Ok(one_in_time(answer))
+            }
+            Err(Full) => Err(self.why_full()),
         }
     }
 
     // So many permits, by this time.
     fn many_by(&self, count: usize, deadline: Deadline) -> Result<Option<bool>, AcquireError>
-        ensures full { IfErr result (λ error. (error ≡ Why.Full) × WasFull SemaphorePlace self.now) }
-        ensures called { count ≤ MAX → IfOk result (λ told. (answer : Result ℕ Error) × (told ≡ many_in_time answer) × IsAnswered self.now.word count answer) }
+        ensures refused { IfErr result (WasRefused self.now count) }
+        ensures called { count ≤ MAX → IfOk result (λ told. (answer : Result ℕ Error) × (told ≡ many_in_time answer) × (is_closed_answer answer ≡ false) × IsAnswered self.now.word count answer) }
         ensures answer { IfOk result (λ told. IfSome told (λ is_granted. IsTrue is_granted ↔ (count ≤ MAX))) }
         ensures too_many { MAX < count → result ≡ Ok (Some false) }
     {
@@ -159,8 +165,13 @@ impl<R: Wait + Clock + Drop, const MAX: usize> Form<R, SemaphoreWord<MAX>> {
             return Ok(Some(false));
         }
         match self.acquire_by(count, deadline) {
-            Ok(answer) => Ok(many_in_time(answer)),
-            Err(Full) => Err(AcquireError::Full),
+            Ok(answer) => {
+                if is_closed(answer) {
+                    return Err(AcquireError::Closed);
+                }
+                Ok(many_in_time(answer))
+            }
+            Err(Full) => Err(self.why_full()),
         }
     }
 }
@@ -223,6 +234,16 @@ impl<R: Wait + Clock + Drop> Form<R, LockWord> {
             Ok(answer) => Ok(in_time(answer)),
             Err(full) => Err(full),
         }
+    }
+}
+
+// Whether a timed call was answered that the semaphore was shut.
+fn is_closed(answer: Result<u8, Error>) -> bool
+    ensures { result ≡ is_closed_answer answer }
+{
+    match answer {
+        Ok(value) => value == CLOSED,
+        Err(_late) => false,
     }
 }
 

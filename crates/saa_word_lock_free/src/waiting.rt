@@ -13,10 +13,12 @@ use saa_core_waits::{CallStart, Deadline, Waitable, WaitableUntil};
 use std::sync::Wait;
 use std::time::Clock;
 
-// The numbers of a grant, and of poison.
+// The numbers of a grant, of poison, and of a semaphore that was shut.
 pub(crate) const GRANTED: u8 = 0;
 
 pub(crate) const POISONED: u8 = 2;
+
+pub(crate) const CLOSED: u8 = 2;
 
 impl<R: Wait + Drop, W: WordForm> Waitable for Form<R, W> {
     ghost use Rattle.saa_word_lock_free.specs.Forms.{TakesAt};

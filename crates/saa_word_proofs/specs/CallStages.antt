@@ -1,9 +1,9 @@
 -- Where a call stands by its stage: which events it has named there, what its place is registered as behind a step, and that the place can make its
 -- next step. Internal: nobody has to believe this; it is an invariant of proofs.
-use Rattle.std.specs.Prelude.{◌≡◌, ◌≢◌, ℕ, ◌+◌, ◌<◌, true, List, [], ◌∷◌, Option, Some, None}
+use Rattle.std.specs.Prelude.{◌≡◌, ◌≢◌, ℕ, ◌+◌, ◌<◌, Bool, true, false, not, List, [], ◌∷◌, Option, Some, None}
 use Rattle.saa_core_spec.specs.Values.{granted_value}
 use Rattle.saa_word_steps.specs.declared.call.WordCall.{WordCall}
-use Rattle.saa_word_steps.specs.declared.call.WordCall.TheVariants.{Release, Available, ReleaseLock, ReleaseShare, Downgrade, PoisonLock, ClearPoison, IsFree, IsLocked, IsShared, IsPoisoned, TryPoll, Poll, Cancel}
+use Rattle.saa_word_steps.specs.declared.call.WordCall.TheVariants.{Release, Available, Shut, IsShut, ReleaseLock, ReleaseShare, Downgrade, PoisonLock, ClearPoison, IsFree, IsLocked, IsShared, IsPoisoned, TryPoll, Poll, Cancel}
 use Rattle.saa_word_steps.specs.declared.call.Answer.{Answer}
 use Rattle.saa_word_steps.specs.declared.call.Answer.TheVariants.{Bool as Says}
 use Rattle.saa_word_steps.specs.declared.place.ReleaseAmount.{ReleaseAmount}
@@ -36,11 +36,18 @@ given_by _ = None
 
 abbrev pub read_by : WordCall → Option Reading
 read_by Available = Some ReadsAvailable
+read_by IsShut = Some ReadsPoisoned
 read_by IsFree = Some ReadsFree
 read_by IsLocked = Some ReadsLocked
 read_by IsShared = Some ReadsShared
 read_by IsPoisoned = Some ReadsPoisoned
 read_by _ = None
+
+-- a call that poisons a lock, or shuts a semaphore
+abbrev pub is_poisoning : Bool → WordCall → Bool
+is_poisoning is_lock PoisonLock = is_lock
+is_poisoning is_lock Shut = not is_lock
+is_poisoning is_lock _ = false
 
 -- a call that takes its answer
 abbrev pub taken_by : WordCall → Option PollMode
@@ -60,7 +67,7 @@ IsReleasing needs call registered Tells given events = (given_by call ≡ Some g
 IsReleasing needs call registered Ends given events = (call ≡ Cancel) × IsGivingUp needs registered given events
 IsReleasing needs call registered (Takes request) given events = ⊥
 
--- a place that works on the line or shows answers has given something back, or poisoned the lock, or left the line; or it takes its own answer
+-- a place that works on the line or shows answers has given something back, poisoned the lock, shut the semaphore, or left the line; or it takes its own answer
 -- next, and has named nothing
 abbrev pub IsWorking : Needs → WordCall → Registration → AfterWalk → List Event → Type 0
 IsWorking needs call registered Tells events = (event : Event) × (events ≡ event ∷ []) × (answer_named needs call event ≡ Some (Says true)) × (call ≢ Cancel)
@@ -94,8 +101,8 @@ IsUnder needs call registered back (LookLoad seen current newer previous) events
 IsUnder needs call registered back (LookStore seen current newer line) events = IsLeavingLine call registered back events
 IsUnder needs call registered back (Unlink seen newer line older) events = IsLeavingLine call registered back events
 IsUnder needs call registered back (DropTail seen older) events = IsLeavingLine call registered back events
-IsUnder needs call registered back PoisonLoad events = (call ≡ PoisonLock) × (back ≡ Tells) × (events ≡ [])
-IsUnder needs call registered back (PoisonExchange seen) events = (call ≡ PoisonLock) × (back ≡ Tells) × (events ≡ [])
+IsUnder needs call registered back PoisonLoad events = (is_poisoning needs.is_lock call ≡ true) × (back ≡ Tells) × (events ≡ [])
+IsUnder needs call registered back (PoisonExchange seen) events = (is_poisoning needs.is_lock call ≡ true) × (back ≡ Tells) × (events ≡ [])
 IsUnder needs call registered back Clear events = (call ≡ ClearPoison) × (events ≡ [])
 IsUnder needs call registered back _ events = IsWorking needs call registered back events
 

@@ -1,12 +1,11 @@
 -- Which answer the events of a call name. A reader of the clauses has to believe this.
 use Rattle.std.specs.Prelude.{◌≡◌, ◌≢◌, ℕ, ◌⊎◌, Bool, true, false, not, ◌&&◌, ◌==◌, if◌then◌else◌, List, [], ◌∷◌, Option, Some, None, Ok, Err}
-use Rattle.saa_core_spec.specs.Lock.{try_answer}
 use Rattle.saa_core_spec.specs.Values.{granted_value}
 use Rattle.saa_core_spec.specs.declared.polling.Error.TheVariants.{NotReady as NotYet}
 use Rattle.saa_word_steps.specs.declared.call.WordCall.{WordCall}
-use Rattle.saa_word_steps.specs.declared.call.WordCall.TheVariants.{Try, Register, Release, Available, TryLock, TryShare, RegisterMode, ReleaseLock, ReleaseShare, Downgrade, PoisonLock, ClearPoison, IsFree, IsLocked, IsShared, IsPoisoned, TryPoll, Poll, Cancel}
+use Rattle.saa_word_steps.specs.declared.call.WordCall.TheVariants.{Try, Register, Release, Available, Shut, IsShut, TryLock, TryShare, RegisterMode, ReleaseLock, ReleaseShare, Downgrade, PoisonLock, ClearPoison, IsFree, IsLocked, IsShared, IsPoisoned, TryPoll, Poll, Cancel}
 use Rattle.saa_word_steps.specs.declared.call.Answer.{Answer}
-use Rattle.saa_word_steps.specs.declared.call.Answer.TheVariants.{Bool as Says, Tried, Taken, Unit as Ended}
+use Rattle.saa_word_steps.specs.declared.call.Answer.TheVariants.{Bool as Says, Taken, Unit as Ended}
 use Rattle.saa_word_steps.specs.declared.place.Ask.{Ask}
 use Rattle.saa_word_steps.specs.declared.place.ReleaseAmount.{ReleaseAmount}
 use Rattle.saa_word_steps.specs.declared.place.ReleaseAmount.TheVariants.{Requested, AllButAShare}
@@ -15,7 +14,7 @@ use Rattle.saa_word_steps.specs.declared.place.Reading.TheVariants.{Available as
 use Rattle.saa_word_steps.specs.declared.place.Registration.{Registration}
 use Rattle.saa_word_steps.specs.declared.place.Registration.TheVariants.{AnsweredAtOnce, Queued}
 use Rattle.saa_word_steps.specs.Needs.{Needs}
-use Rattle.saa_word_steps.specs.Readings.{mode_number, read_as, tried_answer}
+use Rattle.saa_word_steps.specs.Readings.{mode_number, read_as, refusing_answer, tried_answer}
 use Rattle.saa_word_steps.specs.declared.event.Event.{Event}
 use Rattle.saa_word_steps.specs.declared.event.Event.TheVariants.{Acquired, Refused, AskedPoisoned, Joined, Cancelled, Released, ReleasedNothing, Lowered, NotLowered, Poisoned, NotPoisoned, Cleared, NotCleared, NotReady, AnswerTaken, Read}
 
@@ -33,7 +32,7 @@ abbrev pub ask_named : Needs → Ask → Event → Option Answer
 ask_named needs ask (Acquired request) = if request == ask.request then Some (if ask.joins then Says true else tried_answer needs true) else None
 ask_named needs ask (Refused request) = if (request == ask.request) && not ask.joins then Some (tried_answer needs false) else None
 ask_named needs ask (Joined request) = if (request == ask.request) && ask.joins then Some (Says true) else None
-ask_named needs ask AskedPoisoned = Some (if ask.joins then Says true else Tried (try_answer false true))
+ask_named needs ask AskedPoisoned = Some (if ask.joins then Says true else refusing_answer needs)
 ask_named needs ask _ = None
 
 -- the answer that an event names for a release or a downgrade, a reading call and a poll
@@ -53,7 +52,7 @@ poll_named tries (AnswerTaken value) = Some (Taken (Ok (value == granted_value))
 poll_named tries NotReady = if tries then Some (Taken (Err NotYet)) else None
 poll_named tries _ = None
 
--- the answer that an event names for poison and for the clearing of it
+-- the answer that an event names for poison, for a shut, and for the clearing of poison
 abbrev pub poison_named : Event → Option Answer
 poison_named Poisoned = Some (Says true)
 poison_named NotPoisoned = Some (Says false)
@@ -70,6 +69,8 @@ answer_named needs (Try count) event = ask_named needs (record { request = count
 answer_named needs (Register count) event = ask_named needs (record { request = count; joins = true }) event
 answer_named needs (Release count) event = release_named (Requested count) event
 answer_named needs Available event = read_named needs ReadsAvailable event
+answer_named needs Shut event = poison_named event
+answer_named needs IsShut event = read_named needs ReadsPoisoned event
 answer_named needs TryLock event = ask_named needs (record { request = 0; joins = false }) event
 answer_named needs TryShare event = ask_named needs (record { request = 1; joins = false }) event
 answer_named needs (RegisterMode mode) event = ask_named needs (record { request = mode_number mode; joins = true }) event

@@ -1,14 +1,14 @@
 -- What is counted along the events of the abstract state: what was got, what was given back, and what is granted and not taken yet. A reader of
 -- the clauses has to believe this.
-use Rattle.std.specs.Prelude.{◌≡◌, ℕ, ◌+◌, ◌==◌, Bool, true, false, if◌then◌else◌, List, [], ◌∷◌, ◌++◌, take}
-use Rattle.saa_core_spec.specs.Values.{granted_value}
+use Rattle.std.specs.Prelude.{◌≡◌, ℕ, ◌+◌, ◌⊎◌, ◌==◌, Bool, true, false, not, ◌&&◌, ◌||◌, if◌then◌else◌, List, [], ◌∷◌, ◌++◌, take, Option, Some, None}
+use Rattle.saa_core_spec.specs.Values.{closed_value, granted_value}
 use Rattle.saa_core_spec.specs.Object.{without}
 use Rattle.saa_word_steps.specs.Needs.{Needs}
 use Rattle.saa_word_steps.specs.declared.event.Event.{Event}
 use Rattle.saa_word_steps.specs.declared.event.Event.TheVariants.{Acquired, AskedPoisoned, Released, Lowered, Granted, Poisoned, Cleared, AnswerTaken}
 use Rattle.saa_word_steps.specs.AbstractState.{AbstractState, after_event, opening, takes_of}
 
--- What asks that were granted at once took, and what grants took whose answers were taken; what was given back; and the grants that
+-- What asks that were granted at once took, and what grants took whose answers were taken, which those are that say so; what was given back; and the grants that
 -- aren't taken yet: each place that was granted, with the number of what it asked, oldest first
 pub record Tally : Type 0 where
   pub got : ℕ
@@ -30,7 +30,9 @@ after_counting needs state tally place (Acquired request) = record tally { got =
 after_counting needs state tally place (Released request) = record tally { given = tally.given + needs.takes request }
 after_counting needs state tally place (Granted askers) = record tally { pending = tally.pending ++ take askers state.line }
 after_counting needs state tally place (AnswerTaken value) =
-    record tally { got = tally.got + takes_of needs (line_of_place place tally.pending); pending = without place tally.pending }
+    if value == granted_value
+    then record tally { got = tally.got + takes_of needs (line_of_place place tally.pending); pending = without place tally.pending }
+    else tally
 after_counting needs state tally place _ = tally
 
 -- the tally behind a list of events, from a state of the object and a tally on
@@ -47,26 +49,35 @@ tally_of needs withheld events = tallied needs (opening withheld) nothing_yet ev
 abbrev pub ConservesPermits : Needs → ℕ → AbstractState → Tally → Type 0
 ConservesPermits needs withheld state tally = state.count + tally.given ≡ withheld + tally.got + takes_of needs tally.pending
 
--- whether an event poisons the object
-abbrev pub poisons : Event → Bool
-poisons Poisoned = true
-poisons _ = false
+-- whether an event shuts a semaphore
+abbrev pub shuts : Event → Bool
+shuts Poisoned = true
+shuts _ = false
 
--- none of these events poisons the object
-abbrev pub NonePoisons : List (ℕ × Event) → Type 0
-NonePoisons [] = Unit {0}
-NonePoisons (event ∷ events) = (poisons event.1 ≡ false) × NonePoisons events
+-- whether an answer says that a place was granted
+abbrev pub is_grant : Option ℕ → Bool
+is_grant None = false
+is_grant (Some value) = value == granted_value
 
--- whether an event may be one of a semaphore: it isn't poisoned, no ask finds it poisoned, none becomes a share, and an answer says that the place was granted
-abbrev pub is_of_permits : Event → Bool
-is_of_permits Poisoned = false
-is_of_permits AskedPoisoned = false
-is_of_permits Cleared = false
-is_of_permits Lowered = false
-is_of_permits (AnswerTaken value) = value == granted_value
-is_of_permits _ = true
+-- an answer says that a place was granted, or, where the semaphore is shut, that it is
+abbrev pub IsTold : Bool → ℕ → Type 0
+IsTold poisoned value = (value ≡ granted_value) ⊎ ((poisoned ≡ true) × (value ≡ closed_value))
 
--- each of these events may be one of a semaphore
+-- Whether an event may be one of a semaphore that was shut before it, or not. It is shut once, and never opened again. Only where it was shut does an
+-- ask find it so, and is an answer taken that is no grant, but says so. No event lowers it to a share
+abbrev pub is_of_permits : Bool → Event → Bool
+is_of_permits was_shut Poisoned = not was_shut
+is_of_permits was_shut AskedPoisoned = was_shut
+is_of_permits was_shut Cleared = false
+is_of_permits was_shut Lowered = false
+is_of_permits was_shut (AnswerTaken value) = (value == granted_value) || (was_shut && (value == closed_value))
+is_of_permits was_shut _ = true
+
+-- each of these events may be one of a semaphore that was shut before them, or not
+abbrev pub AreOfPermitsFrom : Bool → List (ℕ × Event) → Type 0
+AreOfPermitsFrom was_shut [] = Unit {0}
+AreOfPermitsFrom was_shut (event ∷ events) = (is_of_permits was_shut event.1 ≡ true) × AreOfPermitsFrom (was_shut || shuts event.1) events
+
+-- each of these events may be one of a semaphore, from its opening on
 abbrev pub AreOfPermits : List (ℕ × Event) → Type 0
-AreOfPermits [] = Unit {0}
-AreOfPermits (event ∷ events) = (is_of_permits event.1 ≡ true) × AreOfPermits events
+AreOfPermits events = AreOfPermitsFrom false events

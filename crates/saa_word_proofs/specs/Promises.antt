@@ -7,7 +7,7 @@ use Rattle.saa_word_steps.specs.declared.place.Registration.TheVariants.{Idle}
 use Rattle.saa_word_steps.specs.declared.place.Stage.TheVariants.{Quiet}
 use Rattle.saa_word_steps.specs.declared.place.AfterWalk.TheVariants.{Tells}
 use Rattle.saa_word_steps.specs.Needs.{Needs}
-use Rattle.saa_word_steps.specs.Readings.{poisoned_word}
+use Rattle.saa_word_steps.specs.Readings.{refusing_word}
 use Rattle.saa_word_steps.specs.AbstractState.{AbstractState, IsSettledAt, held_by}
 use Rattle.saa_word_proofs.specs.Rows.{IsBehind, main_of, line_of}
 
@@ -35,14 +35,15 @@ AreAsking words [] = Unit {0}
 AreAsking words (asker ∷ rest) = ((words asker.0).request ≡ asker.1) × AreAsking words rest
 
 -- The words show what the abstract state is: the count and poison at every moment, of each place the answer that it is shown, and of each
--- waiter what it asks. The main word has no bits beyond those of the tail, and that of a poisoned lock is one number. While the flag is
+-- waiter what it asks. The main word has no bits beyond those of the tail, that of a poisoned lock is one number, and
+-- that of a shut semaphore is one for each count. While the flag is
 -- clear the places met along older neighbours from the tail are the line, newest first, the state isn't open, and its line is settled. No
 -- more is held than there ever is, and no place waits twice, or waits and has an answer
 pub record WordsShow (needs : Needs) (places : ℕ) (row : ℕ → ℕ) (state : AbstractState) : Type 0 where
   pub count : (main_of row).count ≡ state.count
   pub poisoned : (main_of row).is_poisoned ≡ state.poisoned
   pub whole : row 0 < 2 ^ (count_bits + 18)
-  pub exact : state.poisoned ≡ true → row 0 ≡ word_number count_bits poisoned_word
+  pub exact : state.poisoned ≡ true → row 0 ≡ word_number count_bits (refusing_word needs (main_of row))
   pub requests : AreAsking (line_of row) state.line
   pub shown : (place : ℕ) → place < places → row (places + place + 1) ≡ answer_number (state.shown place)
   pub line : (main_of row).is_flagged ≡ false → IsChain (line_of row) (main_of row).tail (newest_first state.line)

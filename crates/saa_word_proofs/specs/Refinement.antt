@@ -4,11 +4,10 @@
 -- The row is a function from indexes to numbers: 0 the main word, behind it the line word of each place, behind those the answer
 -- words. A place stands in a word by its link, its number plus 1.
 use Rattle.std.specs.Prelude.{◌≡◌, ℕ, ◌+◌, ◌<◌, ◌≤◌, pred, Bool, true, false, not, ◌||◌, ◌==◌, List, [], ◌∷◌, ◌++◌, Option, Some, is_some, ◌^◌}
-use Rattle.saa_core_spec.specs.Held.{Exclusive}
 use Rattle.saa_core_spec.specs.Object.{one_if, times}
 use Rattle.saa_core_words.specs.declared.word.Word.{Word}
 use Rattle.saa_core_words.specs.declared.line_word.LineWord.{LineWord}
-use Rattle.saa_core_words.specs.Words.{count_bits, word_of, answer_number, lock_count}
+use Rattle.saa_core_words.specs.Words.{count_bits, word_of, answer_number}
 use Rattle.saa_word_steps.specs.declared.place.Place.{Place}
 use Rattle.saa_word_steps.specs.declared.place.Registration.{Registration}
 use Rattle.saa_word_steps.specs.declared.place.Registration.TheVariants.{Queued}
@@ -17,8 +16,8 @@ use Rattle.saa_word_steps.specs.declared.place.AfterWalk.TheVariants.{Takes}
 use Rattle.saa_word_steps.specs.declared.place.PollMode.TheVariants.{Gives}
 use Rattle.saa_word_steps.specs.declared.place.AfterShow.TheVariants.{Again}
 use Rattle.saa_word_steps.specs.declared.place.Stage.{Stage}
-use Rattle.saa_word_steps.specs.declared.place.Stage.TheVariants.{AcquireLoad, AcquireExchange, Prepare, Join, ReleaseLoad, ReleaseExchange, BackLoad, BackStore, Forward, CutToClose, CutForRetry, Close, Empty, Retry, ShowLoad, ShowStore, Take, FlagLoad, FlagExchange, LookLoad, LookStore, Unlink, DropTail, PoisonLoad, PoisonExchange}
-use Rattle.saa_word_steps.specs.Needs.{Needs, fits_count}
+use Rattle.saa_word_steps.specs.declared.place.Stage.TheVariants.{AcquireLoad, AcquireExchange, Prepare, Join, ReleaseLoad, ReleaseExchange, BackLoad, BackStore, Forward, CutToClose, CutForRetry, Close, Empty, Retry, ShowLoad, ShowStore, Take, FlagLoad, FlagExchange, LookLoad, LookStore, Unlink, DropTail, PoisonLoad, PoisonExchange, Clear}
+use Rattle.saa_word_steps.specs.Needs.{Needs, fits_count, forgets, kept, may_refuse}
 use Rattle.saa_word_steps.specs.AbstractState.{AbstractState, IsFront, IsSettledAt, is_empty, is_in, takes_of, held_by}
 use Rattle.saa_word_steps.specs.Steps.{IsRanged, left_from}
 use Rattle.saa_word_proofs.specs.Registering.{is_slot}
@@ -113,7 +112,7 @@ IsLocallyTrue needs registration back (Join request seen) =
     (request < 65536) × (is_slot registration ≡ false) × (seen.tail < 65536) × (waits_behind needs seen request ≡ true) × (seen.is_poisoned ≡ false)
 IsLocallyTrue needs registration back (ReleaseLoad given) = takes_back back ≡ false
 IsLocallyTrue needs registration back (ReleaseExchange given seen) =
-    (seen.tail < 65536) × ((left : ℕ) × (left_from needs seen.count given ≡ Some left)) × (seen.is_poisoned ≡ false) × (takes_back back ≡ false)
+    (seen.tail < 65536) × ((left : ℕ) × (left_from needs seen.count given ≡ Some left)) × (forgets needs seen.is_poisoned ≡ false) × (takes_back back ≡ false)
 IsLocallyTrue needs registration back (BackLoad seen current newer) = IsReturning registration back
 IsLocallyTrue needs registration back (BackStore seen current newer line) = IsReturning registration back
 IsLocallyTrue needs registration back (Forward seen current count) = IsReturning registration back
@@ -133,9 +132,10 @@ IsLocallyTrue needs registration back (LookLoad seen current newer previous) = I
 IsLocallyTrue needs registration back (LookStore seen current newer line) = IsLeaving registration back
 IsLocallyTrue needs registration back (Unlink seen newer line older) = IsLeaving registration back
 IsLocallyTrue needs registration back (DropTail seen older) = IsLeaving registration back × (seen.tail < 65536)
-IsLocallyTrue needs registration back PoisonLoad = (needs.is_lock ≡ true) × (takes_back back ≡ false)
+IsLocallyTrue needs registration back PoisonLoad = takes_back back ≡ false
 IsLocallyTrue needs registration back (PoisonExchange seen) =
-    (needs.is_lock ≡ true) × (takes_back back ≡ false) × (seen.tail < 65536) × (seen.count ≡ lock_count Exclusive) × (seen.is_flagged ≡ false) × (seen.is_poisoned ≡ false)
+    (takes_back back ≡ false) × (seen.tail < 65536) × (may_refuse needs seen.count ≡ true) × (seen.is_flagged ≡ false) × (seen.is_poisoned ≡ false)
+IsLocallyTrue needs registration back Clear = needs.is_lock ≡ true
 IsLocallyTrue needs registration back _ = Unit {0}
 
 -- whether a place takes its own answer next, or once it is done with the line, since it didn't find itself in that
@@ -238,15 +238,15 @@ IsHolding needs words me held line cut (DropTail seen older) =
 IsHolding needs words me held line cut _ = ⊥
 
 -- The main word says what is held and which place is the newest, and its flag whether it has a holder: the link of that place, or 0.
--- Where nobody holds it the object isn't open, and where it isn't open its line is settled. Only a lock is poisoned, and then nothing is
--- held and nobody waits
+-- Where nobody holds it the object isn't open, and where it isn't open its line is settled. Where a lock is poisoned nothing is
+-- held and nobody waits, and where a semaphore is shut nobody waits
 pub record IsMain (needs : Needs) (number : ℕ) (state : AbstractState) (holder : ℕ) : Type 0 where
   pub whole : number < 2 ^ (count_bits + 18)
   pub count : (word_of count_bits number).count ≡ state.count
   pub tail : (word_of count_bits number).tail ≡ newest 0 state.line
   pub flag : (word_of count_bits number).is_flagged ≡ not (holder == 0)
   pub poison : (word_of count_bits number).is_poisoned ≡ state.poisoned
-  pub barren : state.poisoned ≡ true → (state.count ≡ 0) × (state.line ≡ []) × (needs.is_lock ≡ true)
+  pub barren : state.poisoned ≡ true → (state.count ≡ kept needs state.count) × (state.line ≡ [])
   pub bounded : state.count ≤ needs.top
   pub closed : (holder == 0) ≡ true → state.unclosed ≡ false
   pub settled : state.unclosed ≡ false → IsSettledAt needs state.count state.line

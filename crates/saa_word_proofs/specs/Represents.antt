@@ -8,7 +8,7 @@ use Rattle.saa_core_spec.specs.declared.run.CommandOf.TheVariants.{Call, Registe
 use Rattle.saa_core_spec.specs.declared.run.ReplyOf.{ReplyOf}
 use Rattle.saa_core_spec.specs.declared.run.ReplyOf.TheVariants.{Answered as Replied, Registered, Polled, Dropped}
 use Rattle.saa_core_spec.specs.declared.semaphore.SemaphoreCall.{SemaphoreCall}
-use Rattle.saa_core_spec.specs.declared.semaphore.SemaphoreCall.TheVariants.{TryAcquireMany, ReleaseMany, AvailablePermits}
+use Rattle.saa_core_spec.specs.declared.semaphore.SemaphoreCall.TheVariants.{TryAcquireMany, ReleaseMany, AvailablePermits, Shut as Shuts, IsShut as AsksShut}
 use Rattle.saa_core_spec.specs.declared.semaphore.SemaphoreAnswer.{SemaphoreAnswer}
 use Rattle.saa_core_spec.specs.declared.semaphore.SemaphoreAnswer.TheVariants.{Bool as SaysBool, Number as SaysNumber}
 use Rattle.saa_core_spec.specs.declared.lock.Mode.{Mode}
@@ -16,7 +16,7 @@ use Rattle.saa_core_spec.specs.declared.lock.LockCall.{LockCall}
 use Rattle.saa_core_spec.specs.declared.lock.LockCall.TheVariants.{TryLock as TriesLock, TryShare as TriesShare, ReleaseLock as ReleasesLock, ReleaseShare as ReleasesShare, Downgrade as Downgrades, PoisonLock as PoisonsLock, ClearPoison as ClearsPoison, IsFree as AsksFree, IsLocked as AsksLocked, IsShared as AsksShared, IsPoisoned as AsksPoisoned}
 use Rattle.saa_core_spec.specs.declared.lock.LockAnswer.{LockAnswer}
 use Rattle.saa_core_spec.specs.declared.lock.LockAnswer.TheVariants.{Bool as LockBool, Tried as LockTried}
-use Rattle.saa_core_spec.specs.Held.{Held, OfLock, Poisoned}
+use Rattle.saa_core_spec.specs.Held.{Held, OfLock, OfShutSemaphore, Poisoned}
 use Rattle.saa_core_spec.specs.Lock.{lock_step, mode_request}
 use Rattle.saa_core_spec.specs.Object.{Object, After, Entry, Idle, Waiting, Answered, Waiter, entry_at}
 use Rattle.saa_core_spec.specs.Semaphore.{semaphore_step}
@@ -28,7 +28,7 @@ use Rattle.saa_word_steps.specs.declared.place.Registration.TheVariants.{Idle as
 use Rattle.saa_word_steps.specs.declared.call.Answer.{Answer}
 use Rattle.saa_word_steps.specs.declared.call.Answer.TheVariants.{Bool as Says, Number, Tried, Taken, Unit as SaysNothing}
 use Rattle.saa_word_steps.specs.declared.call.WordCall.{WordCall}
-use Rattle.saa_word_steps.specs.declared.call.WordCall.TheVariants.{Try, Register, Release, Available, TryLock, TryShare, RegisterMode, ReleaseLock, ReleaseShare, Downgrade, PoisonLock, ClearPoison, IsFree, IsLocked, IsShared, IsPoisoned, Cancel}
+use Rattle.saa_word_steps.specs.declared.call.WordCall.TheVariants.{Try, Register, Release, Available, Shut, IsShut, TryLock, TryShare, RegisterMode, ReleaseLock, ReleaseShare, Downgrade, PoisonLock, ClearPoison, IsFree, IsLocked, IsShared, IsPoisoned, Cancel}
 use Rattle.saa_word_steps.specs.Needs.{Needs}
 use Rattle.saa_word_steps.specs.AbstractState.{AbstractState}
 
@@ -44,9 +44,17 @@ entry_of needs (AnsweredAtOnce value request) shown is_sync = Answered value (ne
 entry_of needs (Queued request) None is_sync = Waiting (needs.read request) is_sync
 entry_of needs (Queued request) (Some value) is_sync = Answered value (needs.read request) is_sync true
 
--- what the abstract state holds: what it counts, where it isn't poisoned
+-- what is held at a count where every request is refused: a poisoned lock, or a shut semaphore
+abbrev pub refusing : Needs → ℕ → Held
+refusing needs count = if needs.is_lock then OfLock Poisoned else OfShutSemaphore needs.top count
+
+-- what is held at a count, where every request is refused and where not
+abbrev pub held_where : Needs → Bool → ℕ → Held
+held_where needs poisoned count = if poisoned then refusing needs count else needs.held count
+
+-- what the abstract state holds
 abbrev pub held_at : Needs → AbstractState → Held
-held_at needs state = if state.poisoned then OfLock Poisoned else needs.held state.count
+held_at needs state = held_where needs state.poisoned state.count
 
 -- The sequential object holds what the abstract state does, has the same line, and an entry for each place by what that is registered as, sync
 -- or async. It has room for all places
@@ -65,6 +73,8 @@ semaphore_command me is_sync (Try count) = Call (TryAcquireMany count)
 semaphore_command me is_sync (Register count) = Registers me count is_sync
 semaphore_command me is_sync (Release count) = Call (ReleaseMany count)
 semaphore_command me is_sync Available = Call AvailablePermits
+semaphore_command me is_sync Shut = Call Shuts
+semaphore_command me is_sync IsShut = Call AsksShut
 semaphore_command me is_sync Cancel = Drop me
 semaphore_command me is_sync _ = Polls me
 

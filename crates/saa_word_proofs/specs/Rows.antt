@@ -7,6 +7,7 @@ use Rattle.saa_core_spec.specs.Held.{Exclusive}
 use Rattle.saa_core_words.specs.declared.word.Word.{Word}
 use Rattle.saa_core_words.specs.declared.line_word.LineWord.{LineWord}
 use Rattle.saa_core_words.specs.Words.{count_bits, lock_count, word_of, line_word_of}
+use Rattle.saa_word_steps.specs.Needs.{Needs, may_refuse}
 
 -- the main word of a row, and the line word of a place
 abbrev pub main_of : (ℕ → ℕ) → Word
@@ -18,6 +19,10 @@ line_of row place = line_word_of (row (place + 1))
 -- the main word is that of a lock that one owner has, while somebody works on the line
 abbrev pub IsOwnedAndFlagged : Word → Type 0
 IsOwnedAndFlagged seen = (seen.count ≡ lock_count Exclusive) × (seen.is_poisoned ≡ false) × (seen.is_flagged ≡ true)
+
+-- the main word is that of a lock that one owner has, or of a semaphore that isn't shut, while somebody works on the line
+abbrev pub IsRefusableAndFlagged : Needs → Word → Type 0
+IsRefusableAndFlagged needs seen = (may_refuse needs seen.count ≡ true) × (seen.is_poisoned ≡ false) × (seen.is_flagged ≡ true)
 
 -- each of these stands right behind the one before it, the first behind a link, and asks what its line word says
 abbrev pub IsBehind : (ℕ → LineWord) → ℕ → List (ℕ × ℕ) → Type 0

@@ -1,9 +1,8 @@
 -- What a step of a place is to the whole: events of the abstract state, after which words, places and object stand together again.
 -- Internal: nobody has to believe this; what a move promises is said of words and events.
-use Rattle.std.specs.Prelude.{◌≡◌, ℕ, ◌+◌, ◌%◌, ◌<◌, Bool, true, false, not, ◌||◌, ◌==◌, if◌then◌else◌, List, [], ◌∷◌, Option, Some, None}
-use Rattle.saa_core_spec.specs.Held.{Exclusive}
+use Rattle.std.specs.Prelude.{◌≡◌, ℕ, ◌+◌, ◌%◌, ◌<◌, Bool, true, not, ◌||◌, ◌==◌, if◌then◌else◌, List, [], ◌∷◌, Option, Some, None}
 use Rattle.saa_core_words.specs.declared.word.Word.{Word}
-use Rattle.saa_core_words.specs.Words.{count_bits, word_number, word_of, answer_of, lock_count}
+use Rattle.saa_core_words.specs.Words.{count_bits, word_number, word_of, answer_of}
 use Rattle.saa_word_steps.specs.declared.place.Place.{Place}
 use Rattle.saa_word_steps.specs.declared.place.ReleaseAmount.{ReleaseAmount}
 use Rattle.saa_word_steps.specs.declared.place.ReleaseAmount.TheVariants.{Requested, AllButAShare}
@@ -14,7 +13,7 @@ use Rattle.saa_word_steps.specs.declared.place.Stage.TheVariants.{ReadLoad, Acqu
 use Rattle.saa_word_steps.specs.declared.place.Next.{Next}
 use Rattle.saa_word_steps.specs.declared.place.Next.TheVariants.{Going, Waits, Done}
 use Rattle.saa_word_steps.specs.declared.operation.Operation.{Operation}
-use Rattle.saa_word_steps.specs.Needs.{Needs}
+use Rattle.saa_word_steps.specs.Needs.{Needs, forgets, may_refuse}
 use Rattle.saa_word_steps.specs.declared.event.Event.{Event}
 use Rattle.saa_word_steps.specs.declared.event.Event.TheVariants.{Acquired, Refused, AskedPoisoned, Joined, Cancelled, Released, ReleasedNothing, Lowered, NotLowered, NotReady, Poisoned, NotPoisoned, Cleared, NotCleared, AnswerTaken, Read}
 use Rattle.saa_word_steps.specs.AbstractState.{AbstractState, IsRun}
@@ -23,12 +22,6 @@ use Rattle.saa_word_steps.specs.Readings.{poisoned_word}
 use Rattle.saa_word_proofs.specs.History.{named, of_place}
 use Rattle.saa_word_proofs.specs.Refinement.{Invariant, waits_behind}
 use Rattle.saa_word_proofs.specs.Rows.{updated}
-
--- nothing is poisoned by these
-abbrev pub never_poisons : List Event → Bool
-never_poisons [] = true
-never_poisons (Poisoned ∷ rest) = false
-never_poisons (event ∷ rest) = never_poisons rest
 
 -- what an answer names where an ask is decided by the main word that it saw
 abbrev pub decided_events : Needs → ℕ → Bool → Word → List Event
@@ -54,7 +47,7 @@ left_events what None = gave_not what ∷ []
 left_events what (Some left) = []
 
 abbrev pub given_events : Needs → ReleaseAmount → Word → List Event
-given_events needs what seen = if seen.is_poisoned then gave_not what ∷ [] else left_events what (left_from needs seen.count what)
+given_events needs what seen = if forgets needs seen.is_poisoned then gave_not what ∷ [] else left_events what (left_from needs seen.count what)
 
 -- the same of a place that takes its answer
 abbrev pub taken_events : PollMode → Option ℕ → List Event
@@ -63,9 +56,9 @@ taken_events Tries None = NotReady ∷ []
 taken_events Awaits None = []
 taken_events (Gives request) None = []
 
--- the same of poison
-abbrev pub poisoning_events : Word → List Event
-poisoning_events seen = if seen.is_poisoned || not (seen.count == lock_count Exclusive) then NotPoisoned ∷ [] else []
+-- the same of poison, and of a shut
+abbrev pub poisoning_events : Needs → Word → List Event
+poisoning_events needs seen = if seen.is_poisoned || not (may_refuse needs seen.count) then NotPoisoned ∷ [] else []
 
 -- what answers name of the events of a step, from its stage and the number that it finds
 abbrev pub named_at : Needs → Stage → ℕ → List Event
@@ -81,9 +74,9 @@ named_at needs (ReleaseExchange given seen) found =
 named_at needs (Take taking) found = taken_events taking (answer_of (found % 65536))
 named_at needs (Unlink seen newer line older) found = Cancelled ∷ []
 named_at needs (DropTail seen older) found = if found == word_number count_bits seen then Cancelled ∷ [] else []
-named_at needs PoisonLoad found = poisoning_events (word_of count_bits found)
+named_at needs PoisonLoad found = poisoning_events needs (word_of count_bits found)
 named_at needs (PoisonExchange seen) found =
-    if found == word_number count_bits seen then Poisoned ∷ [] else poisoning_events (word_of count_bits found)
+    if found == word_number count_bits seen then Poisoned ∷ [] else poisoning_events needs (word_of count_bits found)
 named_at needs Clear found = if found == word_number count_bits poisoned_word then Cleared ∷ [] else NotCleared ∷ []
 named_at needs _ found = []
 
@@ -104,7 +97,6 @@ pub record StepRefines (needs : Needs) (places : ℕ) (row : ℕ → ℕ) (stand
   pub last : AbstractState
   pub run : IsRun needs state (of_place me events) last
   pub names : named events ≡ named_at needs stage (row (word_at (operation_of needs places me stage)))
-  pub calm : needs.is_lock ≡ false → never_poisons events ≡ true
   pub inside : word_at (operation_of needs places me stage) < places + places + 1
   pub stands : Invariant needs places (row_after row (operation_of needs places me stage))
       (updated standing me (place_after (standing me) (next_of needs me (standing me) stage (row (word_at (operation_of needs places me stage))))))

@@ -52,7 +52,7 @@ pub fn starts()
         → (places ≤ me → joins_line (place_after (standing me) (started needs (standing me) call)).stage ≡ false)
         → Invariant needs places row standing state → (standing me).stage ≡ Quiet → is_taken needs.is_lock call ≡ true
         → Invariant needs places row (updated standing me (place_after (standing me) (started needs (standing me) call))) state }
-    ensures begun { (needs : Needs) (place : Place) (call : WordCall) → place.stage ≡ Quiet
+    ensures begun { (needs : Needs) (place : Place) (call : WordCall) → place.stage ≡ Quiet → is_taken needs.is_lock call ≡ true
         → IsBegun needs call place.registration (started needs place call) }
 {}
 

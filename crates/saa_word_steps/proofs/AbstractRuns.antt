@@ -8,6 +8,7 @@ use Rattle.saa_core_spec.proofs.Counts.{one_if-le, number_same, same_number}
 use Rattle.saa_word_steps.specs.Needs.{Needs, AreNeeds, fits_count, left_count, permit_needs}
 use Rattle.saa_word_steps.specs.declared.event.Event.{Event}
 use Rattle.saa_word_steps.specs.declared.event.Event.TheVariants.{Acquired, Refused, Joined, Released, ReleasedNothing, Lowered, NotLowered, AskedPoisoned, Cancelled, Closed, Poisoned, NotPoisoned, Cleared, NotCleared, NotReady, Granted, Showed, AnswerTaken, Read}
+use Rattle.saa_word_steps.proofs.Giving.{kept-small}
 use Rattle.saa_word_steps.specs.AbstractState.{AbstractState, IsEnabled, after_event, IsRun, IsFront, IsSettledAt, is_empty, is_in, takes_of, answered_with, with_answer, count_or, held_by}
 
 -- what each event keeps every run keeps
@@ -92,7 +93,7 @@ bounded-step needs lawful state place AskedPoisoned allowed was = was
 bounded-step needs lawful state place Cancelled allowed was = was
 bounded-step needs lawful state place (Granted askers) allowed was = front-bounded needs lawful state.count (take askers state.line) allowed.3 was
 bounded-step needs lawful state place Closed allowed was = was
-bounded-step needs lawful state place Poisoned allowed was = omega arith
+bounded-step needs lawful state place Poisoned allowed was = omega (arith, was, kept-small needs state.count)
 bounded-step needs lawful state place NotPoisoned allowed was = was
 bounded-step needs lawful state place Cleared allowed was = was
 bounded-step needs lawful state place NotCleared allowed was = was

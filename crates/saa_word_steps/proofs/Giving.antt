@@ -6,7 +6,7 @@ use Rattle.saa_core_spec.proofs.Counts.{same_number}
 use Rattle.saa_core_words.specs.Words.{lock_count}
 use Rattle.saa_word_steps.specs.declared.place.ReleaseAmount.{ReleaseAmount}
 use Rattle.saa_word_steps.specs.declared.place.ReleaseAmount.TheVariants.{Requested, AllButAShare}
-use Rattle.saa_word_steps.specs.Needs.{Needs, AreNeeds}
+use Rattle.saa_word_steps.specs.Needs.{Needs, AreNeeds, forgets, kept}
 use Rattle.saa_word_steps.specs.Steps.{left_from}
 
 -- a lock at the count of one owner is owned
@@ -27,6 +27,39 @@ left-share needs count left is =
       | inr other ↦
           let none : left_from needs count AllButAShare ≡ None = rw other refl in
           absurd (cc)
+    ]
+
+-- what is kept where every request is refused from then on is no more than what was held, and is kept again
+pub kept-small : (needs : Needs) (count : ℕ) → kept needs count ≤ count
+kept-small needs count =
+    elim (cases_Bool needs.is_lock) [
+      | inl lock ↦ rw lock (omega arith)
+      | inr semaphore ↦ rw semaphore (omega arith)
+    ]
+
+pub kept-twice : (needs : Needs) (count : ℕ) → kept needs count ≡ kept needs (kept needs count)
+kept-twice needs count =
+    elim (cases_Bool needs.is_lock) [
+      | inl lock ↦ rw lock refl
+      | inr semaphore ↦ rw semaphore refl
+    ]
+
+-- a shut semaphore keeps whatever is held
+pub kept-shut : (needs : Needs) (count : ℕ) (poisoned : Bool) → forgets needs poisoned ≡ false → poisoned ≡ true → count ≡ kept needs count
+kept-shut needs count true loose poisoned =
+    elim (cases_Bool needs.is_lock) [
+      | inl lock ↦ let wrong : true ≡ false = rw lock at loose in absurd (cc)
+      | inr semaphore ↦ rw semaphore refl
+    ]
+kept-shut needs count false loose poisoned = absurd (cc)
+
+-- what isn't poisoned forgets nothing
+pub calm-loose : (needs : Needs) (poisoned : Bool) → poisoned ≡ false → forgets needs poisoned ≡ false
+calm-loose needs true calm = absurd (cc)
+calm-loose needs false calm =
+    elim (cases_Bool needs.is_lock) [
+      | inl lock ↦ rw lock refl
+      | inr semaphore ↦ rw semaphore refl
     ]
 
 -- what is left is no more than what was held

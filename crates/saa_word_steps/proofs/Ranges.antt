@@ -16,7 +16,7 @@ use Rattle.saa_word_steps.specs.declared.place.PollMode.TheVariants.{Tries, Awai
 use Rattle.saa_word_steps.specs.declared.place.Stage.{Stage}
 use Rattle.saa_word_steps.specs.declared.place.Stage.TheVariants.{Quiet, ReadLoad, AcquireLoad, AcquireExchange, Prepare, Join, ReleaseLoad, ReleaseExchange, BackLoad, BackStore, Forward, CutToClose, CutForRetry, Close, Empty, Retry, ShowLoad, ShowStore, Take, FlagLoad, FlagExchange, LookLoad, LookStore, Unlink, DropTail, PoisonLoad, PoisonExchange, Clear}
 use Rattle.saa_word_steps.specs.declared.operation.Operation.TheVariants.{Add}
-use Rattle.saa_word_steps.specs.Needs.{Needs, AreNeeds, fits_count}
+use Rattle.saa_word_steps.specs.Needs.{Needs, AreNeeds, fits_count, forgets, may_refuse}
 use Rattle.saa_word_steps.specs.AbstractState.{count_or}
 use Rattle.saa_word_steps.proofs.Giving.{left-shrinks}
 use Rattle.saa_word_steps.specs.Steps.{IsSmall, IsRanged, IsRangedNext, left_from, finished, granted, found_poisoned, gave_nothing, decided, given, given_to, shown_all, dropped, taken_answer, looked_at, closing, flagging, looked_for, poisoning, next_of, written_by}
@@ -49,7 +49,7 @@ nothing-ranged needs place Tells = tt
 nothing-ranged needs place EndsCall = tt
 nothing-ranged needs place (Takes request) = tt
 
-poisoned-ranged : (needs : Needs) (place : Place) (ask : Ask) → IsRangedNext needs (found_poisoned place ask)
+poisoned-ranged : (needs : Needs) (place : Place) (ask : Ask) → IsRangedNext needs (found_poisoned needs place ask)
 poisoned-ranged needs place ask =
     elim (cases_Bool ask.joins) [
       | inl joins ↦ rw joins tt
@@ -93,7 +93,7 @@ given-by needs place what seen small true = nothing-ranged needs place place.bac
 given-by needs place what seen small false = given-to-ranged needs place what seen (left_from needs seen.count what) small
 
 given-ranged : (needs : Needs) (place : Place) (what : ReleaseAmount) (seen : Word) → IsSmall seen → IsRangedNext needs (given needs place what seen)
-given-ranged needs place what seen small = given-by needs place what seen small seen.is_poisoned
+given-ranged needs place what seen small = given-by needs place what seen small (forgets needs seen.is_poisoned)
 
 shown-ranged : (needs : Needs) (place : Place) (afterwards : AfterShow) (current next value : ℕ) → IsRanged needs (ShowStore current next value afterwards) → IsRangedNext needs (shown_all place afterwards)
 shown-ranged needs place Ends current next value ranged = finished-ranged needs place place.back
@@ -141,9 +141,9 @@ found-ranged needs me place seen current newer previous line small =
       | inr other ↦ rw other small
     ]
 
-poisoning-ranged : (needs : Needs) (place : Place) (seen : Word) → IsSmall seen → IsRangedNext needs (poisoning place seen)
+poisoning-ranged : (needs : Needs) (place : Place) (seen : Word) → IsSmall seen → IsRangedNext needs (poisoning needs place seen)
 poisoning-ranged needs place seen small =
-    elim (cases_Bool (seen.is_poisoned || not (seen.count == 63))) [
+    elim (cases_Bool (seen.is_poisoned || not (may_refuse needs seen.count))) [
       | inl refused ↦ rw refused tt
       | inr alone ↦
           elim (cases_Bool seen.is_flagged) [

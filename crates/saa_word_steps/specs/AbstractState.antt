@@ -6,12 +6,12 @@ use Rattle.saa_core_spec.specs.Object.{one_if, times, without}
 use Rattle.saa_core_words.specs.Words.{lock_count}
 use Rattle.saa_word_steps.specs.declared.event.Event.{Event}
 use Rattle.saa_word_steps.specs.declared.event.Event.TheVariants.{Acquired, Refused, Joined, Released, ReleasedNothing, Lowered, NotLowered, AskedPoisoned, Cancelled, Closed, Poisoned, NotPoisoned, Cleared, NotCleared, NotReady, Granted, Showed, AnswerTaken, Read}
-use Rattle.saa_word_steps.specs.Needs.{Needs, fits_count, left_count}
+use Rattle.saa_word_steps.specs.Needs.{Needs, fits_count, forgets, kept, left_count, may_refuse}
 
--- What is held, as a count, and whether it is poisoned; the waiters, oldest first, each with the number of what it asks; whether
--- something was given back or left since the line was last settled; the answers of places that are granted and not shown yet, and
--- the place that granted each of them, which has to show it (for a place with no answer due it says nothing); and the answers that
--- are shown and not taken yet
+-- What is held, as a count, and whether every request is refused, since a lock is poisoned or a semaphore shut; the waiters, oldest
+-- first, each with the number of what it asks; whether something was given back or left since the line was last settled; the answers
+-- of places that are granted and not shown yet, and the place that granted each of them, which has to show it (for a place with no
+-- answer due it says nothing); and the answers that are shown and not taken yet
 pub record AbstractState : Type 0 where
   pub count : ℕ
   pub poisoned : Bool
@@ -82,6 +82,10 @@ must_wait needs state request = not (is_empty state.line) || not (fits_count nee
 abbrev pub IsOwned : Needs → AbstractState → Type 0
 IsOwned needs state = (state.poisoned ≡ false) × (state.count ≡ lock_count Exclusive) × (needs.is_lock ≡ true)
 
+-- a lock can be poisoned: it isn't yet, and one owner has it. A semaphore can be shut: it isn't yet
+abbrev pub MayRefuse : Needs → AbstractState → Type 0
+MayRefuse needs state = (state.poisoned ≡ false) × (may_refuse needs state.count ≡ true)
+
 -- where an event of a place is enabled
 abbrev pub IsEnabled : Needs → AbstractState → ℕ → Event → Type 0
 IsEnabled needs state place (Acquired request) = (state.poisoned ≡ false) × (state.line ≡ []) × (fits_count needs state.count request ≡ true)
@@ -89,8 +93,8 @@ IsEnabled needs state place (Refused request) = (state.poisoned ≡ false) × (m
 IsEnabled needs state place (Joined request) =
     (state.poisoned ≡ false) × (must_wait needs state request ≡ true)
     × (is_in place state.line ≡ false) × (state.due place ≡ None) × (state.shown place ≡ None)
-IsEnabled needs state place (Released request) = (state.poisoned ≡ false) × ((left : ℕ) × (left_count needs state.count request ≡ Some left))
-IsEnabled needs state place (ReleasedNothing request) = (state.poisoned ≡ false) → left_count needs state.count request ≡ None
+IsEnabled needs state place (Released request) = (forgets needs state.poisoned ≡ false) × ((left : ℕ) × (left_count needs state.count request ≡ Some left))
+IsEnabled needs state place (ReleasedNothing request) = (forgets needs state.poisoned ≡ false) → left_count needs state.count request ≡ None
 IsEnabled needs state place Lowered = IsOwned needs state
 IsEnabled needs state place NotLowered = IsOwned needs state → ⊥
 IsEnabled needs state place AskedPoisoned = state.poisoned ≡ true
@@ -98,9 +102,9 @@ IsEnabled needs state place Cancelled = is_in place state.line ≡ true
 IsEnabled needs state place (Granted askers) =
     (state.unclosed ≡ true) × (0 < askers) × (askers ≤ length state.line) × IsFront needs state.count (take askers state.line)
 IsEnabled needs state place Closed = (state.unclosed ≡ true) × IsSettledAt needs state.count state.line
-IsEnabled needs state place Poisoned = (state.unclosed ≡ false) × IsOwned needs state
-IsEnabled needs state place NotPoisoned = IsOwned needs state → ⊥
-IsEnabled needs state place Cleared = state.poisoned ≡ true
+IsEnabled needs state place Poisoned = (state.unclosed ≡ false) × MayRefuse needs state
+IsEnabled needs state place NotPoisoned = MayRefuse needs state → ⊥
+IsEnabled needs state place Cleared = (state.poisoned ≡ true) × (needs.is_lock ≡ true)
 IsEnabled needs state place NotCleared = state.poisoned ≡ false
 IsEnabled needs state place (Showed shown_place) = (is_some (state.due shown_place) ≡ true) × (state.granter shown_place ≡ place)
 IsEnabled needs state place (AnswerTaken value) = state.shown place ≡ Some value
@@ -132,7 +136,7 @@ after_event needs state place (Granted askers) =
 after_event needs state place Closed = record state { unclosed = false }
 after_event needs state place Poisoned =
     record state {
-      count = 0;
+      count = kept needs state.count;
       poisoned = true;
       line = [];
       due = answered_with 2 state.line state.due;

@@ -1,6 +1,6 @@
 -- What a form that is kept in words needs: what is held at a count, what a number asks, and what a request takes. Which request
 -- fits, and what giving back leaves, are then read off the table of needs of the sequential object. A reader of the clauses has to believe this.
-use Rattle.std.specs.Prelude.{◌≡◌, ℕ, ◌+◌, ◌≤◌, Bool, true, false, ◌==◌, if◌then◌else◌, Option, Some, None}
+use Rattle.std.specs.Prelude.{◌≡◌, ℕ, ◌+◌, ◌≤◌, Bool, true, false, ◌&&◌, ◌==◌, if◌then◌else◌, Option, Some, None}
 use Rattle.saa_core_spec.specs.declared.request.Request.{Request}
 use Rattle.saa_core_spec.specs.declared.request.Request.TheVariants.{Exclusive as AskExclusive, Shared as AskShared}
 use Rattle.saa_core_spec.specs.Held.{Held, OfSemaphore, OfLock, LockState, Free, Exclusive, Shared, fits, plus, less}
@@ -9,7 +9,7 @@ use Rattle.saa_word_steps.specs.declared.rules.Rules.TheVariants.{Permits, Modes
 use Rattle.saa_core_words.specs.Words.{held_count, lock_count, permits_of, mode_of}
 
 -- what is held at a count, what a number asks, how much a request adds to the count, the greatest count, and whether it is a lock:
--- that alone can be poisoned, and its tries say why they are refused
+-- that is poisoned where a semaphore is shut, and its tries say why they are refused
 pub record Needs : Type 0 where
   pub held : ℕ → Held
   pub read : ℕ → Request
@@ -29,6 +29,18 @@ counted (Some held) = Some (held_count held)
 -- the count that is left once a request is given back, where it is held
 abbrev pub left_count : Needs → ℕ → ℕ → Option ℕ
 left_count needs count request = counted (less (needs.held count) (needs.read request))
+
+-- whether every request may be refused from a count on: a lock is poisoned by its one owner, and a semaphore can always be shut
+abbrev pub may_refuse : Needs → ℕ → Bool
+may_refuse needs count = if needs.is_lock then count == lock_count Exclusive else true
+
+-- the count that is kept then: a poisoned lock forgets what is held, and a shut semaphore doesn't
+abbrev pub kept : Needs → ℕ → ℕ
+kept needs count = if needs.is_lock then 0 else count
+
+-- whether nothing can be given back: a poisoned lock has forgotten it
+abbrev pub forgets : Needs → Bool → Bool
+forgets needs poisoned = needs.is_lock && poisoned
 
 -- what all proofs need of them: a grant adds what it takes and stays within the greatest count, what fits a count fits every lower
 -- one, and giving back never raises it

@@ -4,7 +4,6 @@
 -- clause of `Simulates`.
 use Rattle.std.specs.Prelude.{◌≡◌, ℕ, ◌+◌, ◌-◌, ◌%◌, ◌^◌, ◌<◌, true, false, not, ◌&&◌, ◌||◌, ◌==◌, if◌then◌else◌, nat_lt, Option, Some, None, Ok, Err}
 use Rattle.saa_core_spec.specs.Held.{Exclusive, Shared}
-use Rattle.saa_core_spec.specs.Lock.{try_answer}
 use Rattle.saa_core_spec.specs.Values.{granted_value, poisoned_value}
 use Rattle.saa_core_spec.specs.declared.polling.Error.TheVariants.{NotRegistered, NotReady}
 use Rattle.saa_core_words.specs.declared.word.Word.{Word}
@@ -26,15 +25,15 @@ use Rattle.saa_word_steps.specs.declared.place.PollMode.TheVariants.{Tries, Awai
 use Rattle.saa_word_steps.specs.declared.place.Stage.{Stage}
 use Rattle.saa_word_steps.specs.declared.place.Stage.TheVariants.{Quiet, ReadLoad, AcquireLoad, AcquireExchange, Prepare, Join, ReleaseLoad, ReleaseExchange, BackLoad, BackStore, Forward, CutToClose, CutForRetry, Close, Empty, Retry, ShowLoad, ShowStore, Take, FlagLoad, FlagExchange, LookLoad, LookStore, Unlink, DropTail, PoisonLoad, PoisonExchange, Clear}
 use Rattle.saa_word_steps.specs.declared.call.Answer.{Answer}
-use Rattle.saa_word_steps.specs.declared.call.Answer.TheVariants.{Bool as Says, Tried, Taken, Unit as Ended}
+use Rattle.saa_word_steps.specs.declared.call.Answer.TheVariants.{Bool as Says, Taken, Unit as Ended}
 use Rattle.saa_word_steps.specs.declared.call.WordCall.{WordCall}
-use Rattle.saa_word_steps.specs.declared.call.WordCall.TheVariants.{Try, Register, Release, Available, TryLock, TryShare, RegisterMode, ReleaseLock, ReleaseShare, Downgrade, PoisonLock, ClearPoison, IsFree, IsLocked, IsShared, IsPoisoned, TryPoll, Poll, Cancel}
+use Rattle.saa_word_steps.specs.declared.call.WordCall.TheVariants.{Try, Register, Release, Available, Shut, IsShut, TryLock, TryShare, RegisterMode, ReleaseLock, ReleaseShare, Downgrade, PoisonLock, ClearPoison, IsFree, IsLocked, IsShared, IsPoisoned, TryPoll, Poll, Cancel}
 use Rattle.saa_word_steps.specs.declared.place.Next.{Next}
 use Rattle.saa_word_steps.specs.declared.place.Next.TheVariants.{Going, Waits, Done}
 use Rattle.saa_word_steps.specs.declared.operation.Operation.{Operation}
 use Rattle.saa_word_steps.specs.declared.operation.Operation.TheVariants.{Load, Exchange, Add, Store, Swap}
-use Rattle.saa_word_steps.specs.Needs.{Needs, fits_count, left_count}
-use Rattle.saa_word_steps.specs.Readings.{is_idle, mode_number, poisoned_word, read_as, tried_answer}
+use Rattle.saa_word_steps.specs.Needs.{Needs, fits_count, forgets, left_count, may_refuse}
+use Rattle.saa_word_steps.specs.Readings.{is_idle, mode_number, poisoned_word, read_as, refusing_answer, refusing_word, tried_answer}
 use Rattle.saa_word_steps.specs.AbstractState.{count_or}
 
 -- a word whose count its bits hold
@@ -89,7 +88,7 @@ IsLeave (Unlink seen newer line older) = Unit {0}
 IsLeave (DropTail seen older) = Unit {0}
 IsLeave _ = ⊥
 
--- a stage of a place that poisons a lock or clears poison
+-- a stage of a place that poisons a lock or shuts a semaphore, or clears poison
 abbrev pub IsPoison : Stage → Type 0
 IsPoison PoisonLoad = Unit {0}
 IsPoison (PoisonExchange seen) = Unit {0}
@@ -106,7 +105,7 @@ abbrev pub released : Needs → Word → ReleaseAmount → Word
 released needs seen given = record {
   count = count_or seen.count (left_from needs seen.count given);
   is_flagged = seen.is_flagged || not (seen.tail == 0);
-  is_poisoned = false;
+  is_poisoned = seen.is_poisoned;
   tail = seen.tail;
 }
 
@@ -154,7 +153,7 @@ operation_of needs places me (LookStore seen current newer line) = Store current
 operation_of needs places me (Unlink seen newer line older) = Store newer (line_number (record line { older = older }))
 operation_of needs places me (DropTail seen older) = exchanged seen (dropped_word seen older)
 operation_of needs places me PoisonLoad = Load 0
-operation_of needs places me (PoisonExchange seen) = exchanged seen poisoned_word
+operation_of needs places me (PoisonExchange seen) = exchanged seen (refusing_word needs seen)
 operation_of needs places me Clear = exchanged poisoned_word (settled_word 0 0)
 
 -- the index of the word that an operation is made on, and what it writes over the number that stood there
@@ -193,19 +192,19 @@ granted needs place ask =
     then Done (record place { registration = AnsweredAtOnce granted_value ask.request; stage = Quiet }) (Says true)
     else done place (tried_answer needs true)
 
--- a registration at a poisoned lock is answered so at once
-abbrev pub found_poisoned : Place → Ask → Next
-found_poisoned place ask =
+-- a registration at a poisoned lock, and at a shut semaphore, is answered so at once
+abbrev pub found_poisoned : Needs → Place → Ask → Next
+found_poisoned needs place ask =
     if ask.joins
     then Done (record place { registration = AnsweredAtOnce poisoned_value ask.request; stage = Quiet }) (Says true)
-    else done place (Tried (try_answer false true))
+    else done place (refusing_answer needs)
 
 -- how an ask goes on with the main word that it saw: it waits behind others and where it doesn't fit, what takes nothing is granted
 -- by the look alone, and else the count is to be raised
 abbrev pub decided : Needs → Place → Ask → Word → Next
 decided needs place ask seen =
     if seen.is_poisoned
-    then found_poisoned place ask
+    then found_poisoned needs place ask
     else (if not (seen.tail == 0) || not (fits_count needs seen.count ask.request)
     then (if ask.joins then going place (Prepare ask.request seen) else done place (tried_answer needs false))
     else (if needs.takes ask.request == 0 then granted needs place ask else going place (AcquireExchange ask seen)))
@@ -223,7 +222,7 @@ given_to place what seen (Some left) = going place (ReleaseExchange what seen)
 
 abbrev pub given : Needs → Place → ReleaseAmount → Word → Next
 given needs place what seen =
-    if seen.is_poisoned then gave_nothing place place.back else given_to place what seen (left_from needs seen.count what)
+    if forgets needs seen.is_poisoned then gave_nothing place place.back else given_to place what seen (left_from needs seen.count what)
 
 -- the flag's holder walks from the tail of the word that it saw
 abbrev pub walking : Place → Word → Next
@@ -295,10 +294,11 @@ looked_for me place seen current newer previous line =
 abbrev pub left_line : Place → Place
 left_line place = record place { registration = Idle; back = EndsCall }
 
--- how poison goes on with the main word that it saw: only a lock that one owner has is poisoned, once nobody holds the flag
-abbrev pub poisoning : Place → Word → Next
-poisoning place seen =
-    if seen.is_poisoned || not (seen.count == lock_count Exclusive)
+-- how a place that is to refuse every request goes on with the main word that it saw: only a lock that one owner has is poisoned, and only a
+-- semaphore shut that isn't yet, once nobody holds the flag
+abbrev pub poisoning : Needs → Place → Word → Next
+poisoning needs place seen =
+    if seen.is_poisoned || not (may_refuse needs seen.count)
     then done place (Says false)
     else (if seen.is_flagged then Waits else going place (PoisonExchange seen))
 
@@ -356,11 +356,11 @@ next_of needs me place (DropTail seen older) found =
     if found == word_number count_bits seen
     then (if older == 0 then done (left_line place) Ended else walking (left_line place) (dropped_word seen older))
     else looking place (word_of count_bits found)
-next_of needs me place PoisonLoad found = poisoning place (word_of count_bits found)
+next_of needs me place PoisonLoad found = poisoning needs place (word_of count_bits found)
 next_of needs me place (PoisonExchange seen) found =
     if found == word_number count_bits seen
     then (if seen.tail == 0 then finished place place.back else going place (ShowLoad seen.tail poisoned_value Ends))
-    else poisoning place (word_of count_bits found)
+    else poisoning needs place (word_of count_bits found)
 next_of needs me place Clear found = done place (Says (found == word_number count_bits poisoned_word))
 
 -- a poll as it starts: only a place that joined the line has a word to look at
@@ -386,6 +386,10 @@ registered_as place request =
 abbrev pub released_as : Place → ReleaseAmount → Next
 released_as place what = Going (record place { stage = ReleaseLoad what; back = Tells })
 
+-- poison, and a shut, as they start
+abbrev pub poisoned_as : Place → Next
+poisoned_as place = Going (record place { stage = PoisonLoad; back = Tells })
+
 -- a call as it starts, at a place that is in none: no word is looked at
 abbrev pub started : Needs → Place → WordCall → Next
 started needs place (Try count) = if nat_lt needs.top count then Done place (Says false) else tried_as place count
@@ -393,13 +397,15 @@ started needs place (Register count) = if nat_lt needs.top count then Done place
 started needs place (Release count) =
     if nat_lt needs.top count then Done place (Says false) else (if count == 0 then Done place (Says true) else released_as place (Requested count))
 started needs place Available = going place (ReadLoad ReadsAvailable)
+started needs place Shut = poisoned_as place
+started needs place IsShut = going place (ReadLoad ReadsPoisoned)
 started needs place TryLock = tried_as place 0
 started needs place TryShare = tried_as place 1
 started needs place (RegisterMode mode) = registered_as place (mode_number mode)
 started needs place ReleaseLock = released_as place (Requested 0)
 started needs place ReleaseShare = released_as place (Requested 1)
 started needs place Downgrade = released_as place AllButAShare
-started needs place PoisonLock = Going (record place { stage = PoisonLoad; back = Tells })
+started needs place PoisonLock = poisoned_as place
 started needs place ClearPoison = going place Clear
 started needs place IsFree = going place (ReadLoad ReadsFree)
 started needs place IsLocked = going place (ReadLoad ReadsLocked)

@@ -14,6 +14,10 @@ pub enum WordCall {
     Release(usize),
     /// Of a semaphore: how many permits are available.
     Available,
+    /// Of a semaphore: shuts it for good; all waiters are answered that it is shut.
+    Shut,
+    /// Of a semaphore: whether it was shut.
+    IsShut,
     /// Of a lock: takes it for one owner alone if there is no waiter and it is free.
     TryLock,
     /// Of a lock: takes a share if there is no waiter and one is left.
@@ -49,14 +53,14 @@ pub enum WordCall {
 /// What a call answers.
 #[derive(Clone, Copy, Debug, Eq, PartialEq)]
 pub enum Answer {
-    /// Of a try of a semaphore, and of a registration, a release, a downgrade, poison and clear: whether it did so. Of the four that read a lock:
-    /// whether it is so.
+    /// Of a try of a semaphore, and of a registration, a release, a downgrade, poison, clear and shut: whether it did so. Of those that read a
+    /// lock, and whether a semaphore was shut: whether it is so.
     Bool(bool),
     /// Of `Available`.
     Number(u16),
     /// Of a try of a lock.
     Tried(Result<(), TryLockError>),
-    /// Of a poll: whether it was granted, and else the lock is poisoned; or why there is no answer.
+    /// Of a poll: whether it was granted, and else the lock is poisoned, or the semaphore shut; or why there is no answer.
     Taken(Result<bool, Error>),
     /// Of a cancel.
     Unit,

@@ -19,15 +19,15 @@ pub enum Event {
     Lowered,
     /// No one owner has the lock, so nothing is lowered.
     NotLowered,
-    /// An ask finds the lock poisoned.
+    /// An ask finds the lock poisoned, or the semaphore shut.
     AskedPoisoned,
     /// A place leaves the line.
     Cancelled,
     /// The line is settled.
     Closed,
-    /// The lock is poisoned.
+    /// The lock is poisoned, or the semaphore shut.
     Poisoned,
-    /// The lock isn't poisoned, since no one owner has it.
+    /// The lock isn't poisoned, since no one owner has it; or the semaphore isn't shut, since it was.
     NotPoisoned,
     /// A poisoned lock is made free.
     Cleared,
@@ -41,6 +41,6 @@ pub enum Event {
     Showed(u16),
     /// A place takes its answer.
     AnswerTaken(u8),
-    /// The count is read, and whether the lock is poisoned.
+    /// The count is read, and whether the lock is poisoned, or the semaphore shut.
     Read(u16, bool),
 }

@@ -4,7 +4,7 @@ ghost use Rattle.std.specs.Prelude.{◌^◌, ◌≡◌, ◌<◌};
 ghost use Rattle.saa_word_steps.specs.declared.operation.Operation.TheVariants.{Store};
 ghost use Rattle.saa_word_steps.specs.Steps.{operation_of, exchanged, flagged_word, dropped_word, released, settled_word, IsRanged, IsSmall};
 ghost use Rattle.saa_word_steps.specs.Needs.{needs_of};
-ghost use Rattle.saa_word_steps.specs.Readings.{poisoned_word};
+ghost use Rattle.saa_word_steps.specs.Readings.{poisoned_word, refusing_word};
 ghost use Rattle.saa_core_words.specs.Words.{count_bits, line_number};
 
 use crate::place::{ReleaseAmount, Stage};
@@ -112,7 +112,7 @@ impl Stage {
                 ..
             } => store(newer, LineWord { older, ..line }),
             Stage::DropTail { seen, older } => exchange(seen, dropped(seen, older)),
-            Stage::PoisonExchange { seen } => exchange(seen, poisoned()),
+            Stage::PoisonExchange { seen } => exchange(seen, refusing(rules, seen)),
             Stage::Clear => exchange(poisoned(), settled(0, 0)),
         }
     }
@@ -154,7 +154,7 @@ pub(crate) fn released(rules: Rules, seen: Word, given: ReleaseAmount) -> Word
     Word {
         count,
         is_flagged: seen.is_flagged || seen.tail != 0,
-        is_poisoned: false,
+        is_poisoned: seen.is_poisoned,
         tail: seen.tail,
     }
 }
@@ -189,6 +189,18 @@ pub(crate) fn poisoned() -> Word
         is_flagged: false,
         is_poisoned: true,
         tail: 0,
+    }
+}
+
+// The main word once the lock is poisoned, or the semaphore shut: nobody waits any more.
+fn refusing(rules: Rules, seen: Word) -> Word
+    requires { IsSmall seen }
+    ensures refusing { result ≡ refusing_word (needs_of rules) seen }
+    ensures small { IsSmall result }
+{
+    Word {
+        count: rules.kept(seen.count),
+        ..poisoned()
     }
 }
 

@@ -50,7 +50,7 @@ pub enum AfterShow {
 /// What a place does that worked on the line, once it is done with it.
 #[derive(Clone, Copy, Debug, Eq, PartialEq)]
 pub enum AfterWalk {
-    /// It answers that it gave something back, or poisoned the lock.
+    /// It answers that it gave something back, poisoned the lock, or shut the semaphore.
     Tells,
     /// It answers that it gave its registration up.
     Ends,
@@ -69,7 +69,7 @@ pub enum Reading {
     IsLocked,
     /// Whether a lock is shared.
     IsShared,
-    /// Whether a lock is poisoned.
+    /// Whether a lock is poisoned, or a semaphore shut.
     IsPoisoned,
 }
 
@@ -222,9 +222,9 @@ pub enum Stage {
         seen: Word,
         older: u16,
     },
-    /// It loads the main word to poison the lock.
+    /// It loads the main word to poison the lock, or to shut the semaphore.
     PoisonLoad,
-    /// It exchanges the word that it saw for that of a poisoned lock.
+    /// It exchanges the word that it saw for that of a poisoned lock, or of a shut semaphore.
     PoisonExchange {
         seen: Word,
     },

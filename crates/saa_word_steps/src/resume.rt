@@ -7,7 +7,7 @@ ghost use Rattle.saa_word_steps.specs.declared.place.Stage.TheVariants.{Join, Re
 ghost use Rattle.saa_word_steps.specs.declared.place.AfterShow.TheVariants.{Again};
 ghost use Rattle.saa_word_steps.specs.Steps.{next_of, IsRanged, IsSmall, IsWork, IsLeave, IsPoison, closing, decided, done, dropped, finished, found_poisoned, gave_nothing, given, going, granted, looked_at, shown_all, taken_answer, walking};
 ghost use Rattle.saa_word_steps.specs.Needs.{needs_of};
-ghost use Rattle.saa_word_steps.specs.Readings.{read_as, tried_answer};
+ghost use Rattle.saa_word_steps.specs.Readings.{read_as, refusing_answer, tried_answer};
 
 use crate::call::{Answer, Error, TryLockError};
 use crate::operation::released;
@@ -19,7 +19,7 @@ use saa_core_words::answer_word;
 use saa_core_words::line_word::LineWord;
 use saa_core_words::word::Word;
 
-// The values of the answers: granted, and the lock is poisoned.
+// The values of the answers: granted, and the lock is poisoned or the semaphore shut.
 const GRANTED: u8 = 0;
 
 pub(crate) const POISONED: u8 = 2;
@@ -193,12 +193,12 @@ impl Place {
         .done(Answer::Bool(true))
     }
 
-    // It asks a poisoned lock.
-    fn found_poisoned(self, ask: Ask) -> Next
-        ensures { result ≡ found_poisoned self ask }
+    // It asks a poisoned lock, or a shut semaphore.
+    fn found_poisoned(self, rules: Rules, ask: Ask) -> Next
+        ensures { result ≡ found_poisoned (needs_of rules) self ask }
     {
         if !ask.joins {
-            return self.done(Answer::Tried(Err(TryLockError::Poisoned)));
+            return self.done(refused(rules));
         }
         let registration = Registration::AnsweredAtOnce(POISONED, ask.request);
         Place {
@@ -213,7 +213,7 @@ impl Place {
         ensures { result ≡ decided (needs_of rules) self ask seen }
     {
         if seen.is_poisoned {
-            return self.found_poisoned(ask);
+            return self.found_poisoned(rules, ask);
         }
         let request = ask.request;
         if seen.tail != 0 || !rules.fits(seen.count, request) {
@@ -252,7 +252,7 @@ impl Place {
     fn give(self, rules: Rules, what: ReleaseAmount, seen: Word) -> Next
         ensures { result ≡ given (needs_of rules) self what seen }
     {
-        if seen.is_poisoned || rules.left(seen.count, what).is_none() {
+        if rules.forgets(seen.is_poisoned) || rules.left(seen.count, what).is_none() {
             return self.gave_nothing();
         }
         let given = what;
@@ -497,6 +497,16 @@ fn tried(rules: Rules, is_granted: bool) -> Answer
         return Answer::Tried(Ok(()));
     }
     Answer::Tried(Err(TryLockError::WouldBlock))
+}
+
+// What a try answers that finds a poisoned lock, or a shut semaphore.
+fn refused(rules: Rules) -> Answer
+    ensures { result ≡ refusing_answer (needs_of rules) }
+{
+    if !rules.is_lock() {
+        return Answer::Bool(false);
+    }
+    Answer::Tried(Err(TryLockError::Poisoned))
 }
 
 // What a reading call answers of a main word.

@@ -1,7 +1,7 @@
 //! What fits, what it takes, and what giving back leaves: of a semaphore and of a lock.
 
 ghost use Rattle.std.specs.Prelude.{◌≡◌, ◌+◌, ◌-◌, ◌≤◌, true, IfSome};
-ghost use Rattle.saa_word_steps.specs.Needs.{fits_count, left_count, needs_of};
+ghost use Rattle.saa_word_steps.specs.Needs.{fits_count, forgets, kept, left_count, may_refuse, needs_of};
 ghost use Rattle.saa_word_steps.specs.Steps.{left_from};
 
 use crate::place::ReleaseAmount;
@@ -100,6 +100,34 @@ impl Rules {
                 _ => None,
             },
         }
+    }
+
+    /// Whether every request may be refused from a count on: a lock is poisoned by its one owner, and a semaphore can always be shut.
+    pub fn may_refuse(self, count: u16) -> bool
+        ensures { result ≡ may_refuse (needs_of self) count }
+    {
+        match self {
+            Rules::Permits(_bound) => true,
+            Rules::Modes => count == ALONE,
+        }
+    }
+
+    /// The count that is kept then: a poisoned lock forgets what is held, and a shut semaphore doesn't.
+    pub fn kept(self, count: u16) -> u16
+        ensures kept { result ≡ kept (needs_of self) count }
+        ensures shrinks { result ≤ count }
+    {
+        match self {
+            Rules::Permits(_bound) => count,
+            Rules::Modes => 0,
+        }
+    }
+
+    /// Whether nothing can be given back: a poisoned lock has forgotten it.
+    pub fn forgets(self, is_poisoned: bool) -> bool
+        ensures { result ≡ forgets (needs_of self) is_poisoned }
+    {
+        self.is_lock() && is_poisoned
     }
 
     /// The count once this is given back; `None` where that isn't held.

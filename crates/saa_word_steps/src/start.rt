@@ -1,7 +1,7 @@
 //! A call as it starts: it looks at no word.
 
 ghost use Rattle.std.specs.Prelude.{◌≡◌};
-ghost use Rattle.saa_word_steps.specs.Steps.{cancelled_as, going, polled_as, registered_as, released_as, started, tried_as};
+ghost use Rattle.saa_word_steps.specs.Steps.{cancelled_as, going, poisoned_as, polled_as, registered_as, released_as, started, tried_as};
 ghost use Rattle.saa_word_steps.specs.Needs.{needs_of};
 ghost use Rattle.saa_word_steps.specs.Readings.{mode_number};
 ghost use Rattle.saa_word_steps.specs.declared.place.Stage.TheVariants.{ReadLoad};
@@ -38,13 +38,11 @@ impl Place {
             WordCall::ReleaseLock => self.start_release(ReleaseAmount::Requested(EXCLUSIVE)),
             WordCall::ReleaseShare => self.start_release(ReleaseAmount::Requested(SHARED)),
             WordCall::Downgrade => self.start_release(ReleaseAmount::AllButAShare),
-            WordCall::PoisonLock => Next::Going(Place {
-                stage: Stage::PoisonLoad,
-                back: AfterWalk::Tells,
-                ..self
-            }),
+            WordCall::PoisonLock => self.start_poison(),
             WordCall::ClearPoison => self.going(Stage::Clear),
             WordCall::Available => self.start_read(Reading::Available),
+            WordCall::Shut => self.start_poison(),
+            WordCall::IsShut => self.start_read(Reading::IsPoisoned),
             WordCall::IsFree => self.start_read(Reading::IsFree),
             WordCall::IsLocked => self.start_read(Reading::IsLocked),
             WordCall::IsShared => self.start_read(Reading::IsShared),
@@ -60,6 +58,17 @@ impl Place {
         ensures { result ≡ going self (ReadLoad reading) }
     {
         self.going(Stage::ReadLoad { reading })
+    }
+
+    // It poisons the lock, or shuts the semaphore.
+    fn start_poison(self) -> Next
+        ensures { result ≡ poisoned_as self }
+    {
+        Next::Going(Place {
+            stage: Stage::PoisonLoad,
+            back: AfterWalk::Tells,
+            ..self
+        })
     }
 
     // It asks, and doesn't wait.

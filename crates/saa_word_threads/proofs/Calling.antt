@@ -6,7 +6,7 @@ use Rattle.saa_core_spec.specs.Values.{granted_value}
 use Rattle.saa_word_steps.specs.declared.call.Answer.{Answer}
 use Rattle.saa_word_steps.specs.declared.call.Answer.TheVariants.{Bool as Says, Taken}
 use Rattle.saa_word_steps.specs.declared.call.WordCall.{WordCall}
-use Rattle.saa_word_steps.specs.declared.call.WordCall.TheVariants.{Try, Register, Release, Available, TryLock, TryShare, RegisterMode, ReleaseLock, ReleaseShare, Downgrade, PoisonLock, ClearPoison, IsFree, IsLocked, IsShared, IsPoisoned, TryPoll, Poll, Cancel}
+use Rattle.saa_word_steps.specs.declared.call.WordCall.TheVariants.{Try, Register, Release, Available, Shut, IsShut, TryLock, TryShare, RegisterMode, ReleaseLock, ReleaseShare, Downgrade, PoisonLock, ClearPoison, IsFree, IsLocked, IsShared, IsPoisoned, TryPoll, Poll, Cancel}
 use Rattle.saa_word_steps.specs.declared.event.Event.{Event}
 use Rattle.saa_word_steps.specs.declared.place.Next.{Next}
 use Rattle.saa_word_steps.specs.declared.place.Next.TheVariants.{Going, Waits, Done}
@@ -151,6 +151,8 @@ started-back needs rest (Release count) =
           ]
     ]
 started-back needs rest Available = refl
+started-back needs rest Shut = refl
+started-back needs rest IsShut = refl
 started-back needs rest TryLock = refl
 started-back needs rest TryShare = refl
 started-back needs rest (RegisterMode mode) = registering-back rest (mode_number mode) rest.registration
@@ -215,7 +217,7 @@ pub in-call-begins : (needs : Needs) (places me : ℕ) (call : WordCall) (rest f
     → is_taken needs.is_lock call ≡ true → started needs rest call ≡ Going first → InCall needs places me call rest.registration v first v
 in-call-begins needs places me call rest first v here since takes is = record {
   events = [];
-  under = subst (IsBegun needs call rest.registration) is (call-begun needs rest call since.0);
+  under = subst (IsBegun needs call rest.registration) is (call-begun needs rest call since.0 takes);
   extends = extends-none v;
   registered = (started-going (starting_answer needs call rest.registration) (registration_after_start call rest.registration) first (so needs call rest since.0 (Going first) is)).1;
   begins = inr (rest, call, since, takes, ap (place_after rest) (sym is));
@@ -356,6 +358,7 @@ try-single needs me rest (Queued request) = λ found. tries-done needs (record r
 
 single-next : (needs : Needs) (me : ℕ) (rest : Place) (call : WordCall) → is_single call ≡ true → IsSingleNext needs me (started needs rest call)
 single-next needs me rest Available single = λ found. refl
+single-next needs me rest IsShut single = λ found. refl
 single-next needs me rest IsFree single = λ found. refl
 single-next needs me rest IsLocked single = λ found. refl
 single-next needs me rest IsShared single = λ found. refl

@@ -5,6 +5,7 @@ use Rattle.saa_core_spec.proofs.Counts.{number_same}
 use Rattle.saa_core_spec.specs.Values.{granted_value}
 use Rattle.saa_core_words.specs.declared.word.Word.{Word}
 use Rattle.saa_core_words.specs.Words.{count_bits, word_number, word_of}
+use Rattle.saa_word_steps.proofs.Giving.{calm-loose}
 use Rattle.saa_word_steps.specs.declared.call.Answer.TheVariants.{Bool as Says}
 use Rattle.saa_word_steps.specs.declared.place.Ask.{Ask}
 use Rattle.saa_word_steps.specs.declared.place.Next.{Next}
@@ -15,7 +16,7 @@ use Rattle.saa_word_steps.specs.declared.place.AfterWalk.{AfterWalk}
 use Rattle.saa_word_steps.specs.declared.place.AfterWalk.TheVariants.{Tells, Ends, Takes}
 use Rattle.saa_word_steps.specs.declared.place.ReleaseAmount.TheVariants.{Requested}
 use Rattle.saa_word_steps.specs.declared.place.Stage.TheVariants.{Quiet, AcquireLoad, AcquireExchange, BackLoad, ReleaseLoad, ReleaseExchange}
-use Rattle.saa_word_steps.specs.Needs.{Needs, fits_count, left_count}
+use Rattle.saa_word_steps.specs.Needs.{Needs, fits_count, left_count, forgets}
 use Rattle.saa_word_steps.specs.Steps.{decided, finished, gave_nothing, given, given_to, going, granted, next_of, released, walking}
 use Rattle.saa_word_steps.specs.Readings.{tried_answer}
 use Rattle.saa_word_threads.specs.declared.call.Pending.{Pending}
@@ -129,7 +130,8 @@ given-straight needs place request left seen lowers =
     let is = left-some needs seen request left lowers in
     let calm : seen.is_poisoned ≡ false = is.0 in
     let some : left_count needs seen.count request ≡ Some left = is.1 in
-    rw (calm, some) refl
+    let loose : forgets needs seen.is_poisoned ≡ false = calm-loose needs seen.is_poisoned calm in
+    rw (loose, some) refl
 
 pub give-goes : (needs : Needs) (me : ℕ) (rest : Place) (request left found : ℕ) (seen : Word) → seen ≡ word_of count_bits found
     → lowers_to needs seen request ≡ Some left
@@ -166,7 +168,7 @@ given-to-not-joining place request seen (Some left) = refl
 
 given-not-joining : (needs : Needs) (place : Place) (request : ℕ) (seen : Word) → prepares (given needs place (Requested request) seen) ≡ false
 given-not-joining needs place request seen =
-    either-not-joining seen.is_poisoned (gave_nothing place place.back) (given_to place (Requested request) seen (left_count needs seen.count request))
+    either-not-joining (forgets needs seen.is_poisoned) (gave_nothing place place.back) (given_to place (Requested request) seen (left_count needs seen.count request))
     (gave-not-joining place place.back) (given-to-not-joining place request seen (left_count needs seen.count request))
 
 finished-not-joining : (place : Place) (back : AfterWalk) → prepares (finished place back) ≡ false
@@ -193,7 +195,10 @@ give-misses needs me rest request seen one old is found joins =
 pub lowered : (needs : Needs) (seen : Word) (request left : ℕ) → lowers_to needs seen request ≡ Some left
     → record { count = left; is_flagged = seen.is_flagged || not (seen.tail == 0); is_poisoned = false; tail = seen.tail } ≡ released needs seen (Requested request)
 lowered needs seen request left lowers =
-    let some : left_count needs seen.count request ≡ Some left = (left-some needs seen request left lowers).1 in rw some refl
+    let is = left-some needs seen request left lowers in
+    let calm : seen.is_poisoned ≡ false = is.0 in
+    let some : left_count needs seen.count request ≡ Some left = is.1 in
+    rw (calm, some) refl
 
 -- it is given back: where there are waiters that nobody else settles, its place goes on to walk the queue, and else it is done
 module _ (form : Form) (pending : Pending) (rest : Place) (request : ℕ) (seen : Word) (other : ℕ) (at : Place) (seat : Seat)

@@ -8,12 +8,11 @@ use Rattle.saa_word_steps.specs.declared.place.ReleaseAmount.{ReleaseAmount}
 use Rattle.saa_word_steps.specs.declared.place.ReleaseAmount.TheVariants.{AllButAShare, Requested}
 use Rattle.saa_word_steps.specs.declared.place.Stage.{Stage}
 use Rattle.saa_word_steps.specs.declared.place.Stage.TheVariants.{AcquireExchange, AcquireLoad, Clear, DropTail, Join, PoisonExchange, PoisonLoad, ReadLoad, ReleaseExchange, ReleaseLoad, Take, Unlink}
-use Rattle.saa_word_steps.specs.Needs.{Needs}
+use Rattle.saa_word_steps.specs.Needs.{Needs, forgets, may_refuse}
 use Rattle.saa_word_steps.specs.AbstractState.{AbstractState, IsRun, after_event}
 use Rattle.saa_word_proofs.specs.History.{has_part, is_named, is_waiters, named, never_waits, of_place, part_of, seen_by}
 use Rattle.saa_core_words.specs.declared.word.Word.{Word}
-use Rattle.saa_core_spec.specs.Held.{Exclusive}
-use Rattle.saa_core_words.specs.Words.{count_bits, lock_count, word_number, word_of}
+use Rattle.saa_core_words.specs.Words.{count_bits, word_number, word_of}
 use Rattle.saa_word_steps.specs.Readings.{poisoned_word}
 use Rattle.saa_word_proofs.specs.Refinement.{IsVisiting, waits_behind}
 use Rattle.saa_word_proofs.specs.StepRefinement.{decided_events, gave, gave_not, given_events, left_events, named_at, poisoning_events}
@@ -255,10 +254,10 @@ left-never what None = gave-not-never what
 left-never what (Some left) = refl
 
 given-never : (needs : Needs) (what : ReleaseAmount) (seen : Word) → never_waits (given_events needs what seen) ≡ true
-given-never needs what seen = either-never seen.is_poisoned _ _ (gave-not-never what) (left-never what _)
+given-never needs what seen = either-never (forgets needs seen.is_poisoned) _ _ (gave-not-never what) (left-never what _)
 
-poisoning-never : (seen : Word) → never_waits (poisoning_events seen) ≡ true
-poisoning-never seen = either-never (seen.is_poisoned || not (seen.count == lock_count Exclusive)) (NotPoisoned ∷ []) [] refl refl
+poisoning-never : (needs : Needs) (seen : Word) → never_waits (poisoning_events needs seen) ≡ true
+poisoning-never needs seen = either-never (seen.is_poisoned || not (may_refuse needs seen.count)) (NotPoisoned ∷ []) [] refl refl
 
 -- the events that answers name of a visitor's step are no waiter's
 pub visitor-names : (needs : Needs) (stage : Stage) (found : ℕ) → IsVisiting stage → never_waits (named_at needs stage found) ≡ true
@@ -275,9 +274,9 @@ visitor-names needs (ReleaseExchange what seen) found visits =
 visitor-names needs (Take taking) found visits = let uses = visits.1 in absurd (cc)
 visitor-names needs (Unlink seen newer line older) found visits = let uses = visits.1 in absurd (cc)
 visitor-names needs (DropTail seen older) found visits = let uses = visits.1 in absurd (cc)
-visitor-names needs PoisonLoad found visits = poisoning-never (word_of count_bits found)
+visitor-names needs PoisonLoad found visits = poisoning-never needs (word_of count_bits found)
 visitor-names needs (PoisonExchange seen) found visits =
-    either-never (found == word_number count_bits seen) (Poisoned ∷ []) (poisoning_events (word_of count_bits found)) refl
-    (poisoning-never (word_of count_bits found))
+    either-never (found == word_number count_bits seen) (Poisoned ∷ []) (poisoning_events needs (word_of count_bits found)) refl
+    (poisoning-never needs (word_of count_bits found))
 visitor-names needs Clear found visits = either-never (found == word_number count_bits poisoned_word) (Cleared ∷ []) (NotCleared ∷ []) refl refl
 visitor-names needs stage found visits = refl

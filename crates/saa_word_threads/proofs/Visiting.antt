@@ -1,9 +1,8 @@
 -- Visitors: their steps go by no number, and they rest as they began.
 use Rattle.std.proofs.Common.{◌≡◌, ℕ, ◌<◌, ◌≤◌, ◌+◌, ◌==◌, ◌&&◌, ◌||◌, not, nat_lt, Bool, true, false, if◌then◌else◌, Option, Some, None, refl, sym, ap, subst, ◌∙◌, arith, inr}
-use Rattle.saa_core_spec.specs.Held.{Exclusive}
 use Rattle.saa_core_words.specs.declared.word.Word.{Word}
 use Rattle.saa_core_words.specs.declared.line_word.LineWord.{LineWord}
-use Rattle.saa_core_words.specs.Words.{count_bits, word_number, word_of, line_word_of, lock_count}
+use Rattle.saa_core_words.specs.Words.{count_bits, word_number, word_of, line_word_of}
 use Rattle.saa_word_steps.specs.declared.call.Answer.TheVariants.{Bool as Says}
 use Rattle.saa_word_steps.specs.declared.call.WordCall.{WordCall}
 use Rattle.saa_word_steps.specs.declared.call.WordCall.TheVariants.{Try, Release}
@@ -22,7 +21,7 @@ use Rattle.saa_word_steps.specs.declared.place.Registration.{Registration}
 use Rattle.saa_word_steps.specs.declared.place.Registration.TheVariants.{Idle}
 use Rattle.saa_word_steps.specs.declared.place.Stage.{Stage}
 use Rattle.saa_word_steps.specs.declared.place.Stage.TheVariants.{Quiet, ReadLoad, AcquireLoad, AcquireExchange, Prepare, Join, ReleaseLoad, ReleaseExchange, BackLoad, BackStore, Forward, CutToClose, CutForRetry, Close, Empty, Retry, ShowLoad, ShowStore, Take, LookLoad, PoisonLoad, PoisonExchange, Clear}
-use Rattle.saa_word_steps.specs.Needs.{Needs, fits_count}
+use Rattle.saa_word_steps.specs.Needs.{Needs, fits_count, forgets, may_refuse}
 use Rattle.saa_word_steps.specs.Readings.{is_taken, tried_answer}
 use Rattle.saa_word_steps.specs.Steps.{closing, decided, finished, gave_nothing, given, given_to, granted, left_from, looked_at, next_of, operation_of, poisoning, released, shown_all, started, word_at}
 use Rattle.saa_word_proofs.specs.Promises.{idle_place}
@@ -95,7 +94,7 @@ keeps-left place what seen (Some left) = refl
 
 keeps-given : (needs : Needs) (place : Place) (what : ReleaseAmount) (seen : Word) → Keeps place (given needs place what seen)
 keeps-given needs place what seen =
-    keeps-either place seen.is_poisoned _ _ (keeps-nothing place place.back) (keeps-left place what seen (left_from needs seen.count what))
+    keeps-either place (forgets needs seen.is_poisoned) _ _ (keeps-nothing place place.back) (keeps-left place what seen (left_from needs seen.count what))
 
 keeps-shown : (place : Place) (afterwards : AfterShow) → Keeps place (shown_all place afterwards)
 keeps-shown place Ends = keeps-finished place place.back
@@ -113,9 +112,9 @@ keeps-closing place seen count top found =
     (keeps-either place (top == 0) _ _ (keeps-finished place place.back) refl)
     (keeps-either place ((word_of count_bits found).count == seen.count) _ _ refl refl)
 
-keeps-poisoning : (place : Place) (seen : Word) → Keeps place (poisoning place seen)
-keeps-poisoning place seen =
-    keeps-either place (seen.is_poisoned || not (seen.count == lock_count Exclusive)) _ _ refl
+keeps-poisoning : (needs : Needs) (place : Place) (seen : Word) → Keeps place (poisoning needs place seen)
+keeps-poisoning needs place seen =
+    keeps-either place (seen.is_poisoned || not (may_refuse needs seen.count)) _ _ refl
     (keeps-either place seen.is_flagged _ _ refl refl)
 
 keeps-next : (needs : Needs) (me : ℕ) (place : Place) (stage : Stage) (found : ℕ) → IsVisiting stage → Keeps place (next_of needs me place stage found)
@@ -141,10 +140,10 @@ keeps-next needs me place (Empty seen current count line) found visits =
 keeps-next needs me place (Retry seen count top) found visits = keeps-either place (top == 0) _ _ refl refl
 keeps-next needs me place (ShowLoad current value afterwards) found visits = refl
 keeps-next needs me place (ShowStore current next value afterwards) found visits = keeps-either place (next == 0) _ _ (keeps-shown place afterwards) refl
-keeps-next needs me place PoisonLoad found visits = keeps-poisoning place (word_of count_bits found)
+keeps-next needs me place PoisonLoad found visits = keeps-poisoning needs place (word_of count_bits found)
 keeps-next needs me place (PoisonExchange seen) found visits =
     keeps-either place (found == word_number count_bits seen) _ _ (keeps-either place (seen.tail == 0) _ _ (keeps-finished place place.back) refl)
-    (keeps-poisoning place (word_of count_bits found))
+    (keeps-poisoning needs place (word_of count_bits found))
 keeps-next needs me place Clear found visits = refl
 keeps-next needs me place stage found visits = let uses = visits.1 in let joins = visits.0 in absurd (cc)
 

@@ -2,7 +2,7 @@
 use Rattle.std.specs.Prelude.{◌≡◌, ℕ, Bool, true, false, List, Option, Some, None}
 use Rattle.saa_word_steps.specs.declared.call.Answer.{Answer}
 use Rattle.saa_word_steps.specs.declared.call.WordCall.{WordCall}
-use Rattle.saa_word_steps.specs.declared.call.WordCall.TheVariants.{Available, IsFree, IsLocked, IsShared, IsPoisoned, TryPoll}
+use Rattle.saa_word_steps.specs.declared.call.WordCall.TheVariants.{Available, IsShut, IsFree, IsLocked, IsShared, IsPoisoned, TryPoll}
 use Rattle.saa_word_steps.specs.declared.event.Event.{Event}
 use Rattle.saa_word_steps.specs.declared.place.Next.{Next}
 use Rattle.saa_word_steps.specs.declared.place.Next.TheVariants.{Going, Waits, Done}
@@ -51,6 +51,7 @@ pub record InCall (needs : Needs) (places me : ℕ) (call : WordCall) (was : Reg
 -- the calls of one step at most
 abbrev pub is_single : WordCall → Bool
 is_single Available = true
+is_single IsShut = true
 is_single IsFree = true
 is_single IsLocked = true
 is_single IsShared = true

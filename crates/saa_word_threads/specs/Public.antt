@@ -9,6 +9,7 @@ use Rattle.saa_word_steps.specs.Needs.{Needs}
 use Rattle.saa_core_spec.specs.declared.lock.TryLockError.{TryLockError}
 use Rattle.saa_core_spec.specs.declared.lock.TryLockError.TheVariants.{WouldBlock}
 use Rattle.saa_core_spec.specs.declared.polling.Error.{Error}
+use Rattle.saa_core_spec.specs.declared.polling.Error.TheVariants.{Closed}
 use Rattle.saa_core_waits.specs.declared.spin_policy.SpinPolicy.{SpinPolicy}
 use Rattle.saa_word_threads.specs.declared.place.Place.{Place}
 use Rattle.saa_word_threads.specs.declared.place.Left.{Left}
@@ -46,9 +47,10 @@ abbrev pub is_granted : Answer → Bool
 is_granted (Taken (Ok true)) = true
 is_granted _ = false
 
--- what a poll of a semaphore answers
+-- what a poll of a semaphore answers: one that is no grant says that the semaphore was shut
 abbrev pub polled : Answer → Result (Unit {0}) Error
 polled (Taken (Err error)) = Err error
+polled (Taken (Ok false)) = Err Closed
 polled _ = Ok tt
 
 -- what a try of a lock answers, and what a poll of it does

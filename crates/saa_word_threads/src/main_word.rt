@@ -21,7 +21,8 @@ impl Form {
             && self.rules.takes(ask.request) != 0
     }
 
-    // The count of a word once a request is given back by an exchange: where it isn't poisoned, and so much is taken.
+    // The count of a word once a request is given back by an exchange: where it isn't poisoned or shut, and so much is taken. At a shut semaphore a
+    // release goes step by step.
     pub(crate) fn lowers(&self, seen: Word, request: u16) -> Option<u16>
         ensures { result ≡ lowers_to (needs self.now) seen request }
     {

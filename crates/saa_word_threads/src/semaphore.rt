@@ -8,7 +8,7 @@ ghost use Rattle.saa_core_spec.specs.declared.polling.Error.{Error};
 ghost use Rattle.saa_core_spec.specs.declared.polling.Error.TheVariants.{NotReady};
 ghost use Rattle.saa_word_steps.specs.declared.call.Answer.{Answer};
 ghost use Rattle.saa_word_steps.specs.declared.call.Answer.TheVariants.{Number, Taken};
-ghost use Rattle.saa_word_steps.specs.declared.call.WordCall.TheVariants.{Try, Register, Release, Available, TryPoll, Poll, Cancel};
+ghost use Rattle.saa_word_steps.specs.declared.call.WordCall.TheVariants.{Try, Register, Release, Available, Shut, IsShut, TryPoll, Poll, Cancel};
 ghost use Rattle.saa_word_steps.specs.declared.rules.Rules.TheVariants.{Permits};
 ghost use Rattle.saa_word_threads.specs.Dealt.{AreLedTo, AreNew, IsLedTo, numbers};
 ghost use Rattle.saa_word_threads.specs.Kept.{departed};
@@ -82,7 +82,7 @@ impl<const MAX: usize> SemaphoreOf<MAX> {
 
     /// Takes `count` permits if there is no waiter and they are available; never waits for a permit.
     ///
-    /// Counts above [`Self::MAX_PERMITS`] are never granted. A `false` takes nothing. Costs two steps on the word, and one more for each
+    /// Counts above [`Self::MAX_PERMITS`] are never granted, and nothing is once the semaphore is shut. A `false` takes nothing. Costs two steps on the word, and one more for each
     /// other task that changed it meanwhile.
     pub fn try_acquire_many<R: Wait>(&self, rt: &R, place: &mut Place, count: usize) -> bool
         requires { IsDealtBy self.now place.old }
@@ -103,7 +103,8 @@ impl<const MAX: usize> SemaphoreOf<MAX> {
     /// Takes `count` permits, and waits for them where it must.
     ///
     /// Where they aren't available, or there is a waiter, the place joins the waiters at once. `false`, without waiting, for a count above
-    /// [`Self::MAX_PERMITS`] and at a place that is registered.
+    /// [`Self::MAX_PERMITS`] and at a place that is registered; and `false` where the semaphore is shut, or was while this waited
+    /// ([`Self::is_shut`]).
     pub fn acquire_many<R: Wait>(&self, rt: &R, place: &mut Place, count: usize) -> bool
         requires { IsDealtBy self.now place.old }
         ensures waited { AcquiresAndPolls self.now count place.old result place.new }
@@ -134,7 +135,8 @@ impl<const MAX: usize> SemaphoreOf<MAX> {
 
     /// Gives `count` permits back, and grants the oldest waiters while they fit.
     ///
-    /// `false`, and nothing changes, where fewer are taken. Any place may give back what another one took.
+    /// `false`, and nothing changes, where fewer are taken. Any place may give back what another one took. A shut semaphore takes permits back as
+    /// ever.
     pub fn release_many<R: Wait>(&self, rt: &R, place: &mut Place, count: usize) -> bool
         requires { IsDealtBy self.now place.old }
         ensures called { (answer : Answer) × (result ≡ is_yes answer) × IsMade self.now (Release count) place.old answer place.new }
@@ -148,8 +150,8 @@ impl<const MAX: usize> SemaphoreOf<MAX> {
 
     /// Asks for `count` permits: they are granted at once, or the place joins the waiters.
     ///
-    /// `false`, and nothing changes, for a count above [`Self::MAX_PERMITS`] and at a place that is registered. The answer is taken by
-    /// [`Self::poll`] or [`Self::try_poll`].
+    /// `false`, and nothing changes, for a count above [`Self::MAX_PERMITS`] and at a place that is registered. A shut semaphore answers the
+    /// registration at once, `Closed`. The answer is taken by [`Self::poll`] or [`Self::try_poll`].
     pub fn register<R: Wait>(&self, rt: &R, place: &mut Place, count: usize) -> bool
         requires { IsDealtBy self.now place.old }
         ensures called { (answer : Answer) × (result ≡ is_yes answer) × IsMade self.now (Register count) place.old answer place.new }
@@ -200,7 +202,8 @@ impl<const MAX: usize> SemaphoreOf<MAX> {
 
     /// Takes the answer of a registration where it is there; never blocks.
     ///
-    /// `NotReady` while the place waits, `NotRegistered` where it is registered as nothing. Costs one step at most.
+    /// `Closed`: the semaphore was shut, and nothing was granted. `NotReady` while the place waits, `NotRegistered` where it is registered as
+    /// nothing. Costs one step at most.
     pub fn try_poll(&self, place: &mut Place) -> Result<(), Error>
         requires { IsDealtBy self.now place.old }
         ensures called { (answer : Answer) × (result ≡ polled answer) × IsMade self.now TryPoll place.old answer place.new }
@@ -210,7 +213,7 @@ impl<const MAX: usize> SemaphoreOf<MAX> {
 
     /// Takes the answer of a registration, and waits for it where it must.
     ///
-    /// `NotRegistered` where the place is registered as nothing; no other error comes.
+    /// `Closed`: the semaphore was shut, and nothing was granted. `NotRegistered` where the place is registered as nothing; no other error comes.
     pub fn poll<R: Wait>(&self, rt: &R, place: &mut Place) -> Result<(), Error>
         requires { IsDealtBy self.now place.old }
         ensures called { (answer : Answer) × (result ≡ polled answer) × IsMade self.now Poll place.old answer place.new }
@@ -329,6 +332,25 @@ impl<const MAX: usize> SemaphoreOf<MAX> {
         }
     }
 
+    /// Shuts the semaphore for good: every waiter is answered `Closed`, and so is every registration from then on; every try is refused.
+    ///
+    /// What is out comes back, and is told as available, as ever. `false`, and nothing changes, where it was shut already. It yields while another
+    /// call works on the queue. Costs O(waiters).
+    pub fn shut<R: Wait>(&self, rt: &R, place: &mut Place) -> bool
+        requires { IsDealtBy self.now place.old }
+        ensures called { (answer : Answer) × (result ≡ is_yes answer) × IsMade self.now Shut place.old answer place.new }
+    {
+        yes(self.form.call(rt, &Unwatched, place, WordCall::Shut))
+    }
+
+    /// Whether the semaphore was shut; never blocks. Costs one step.
+    pub fn is_shut(&self, place: &mut Place) -> bool
+        requires { IsDealtBy self.now place.old }
+        ensures { (answer : Answer) × (result ≡ is_yes answer) × IsMade self.now IsShut place.old answer place.new }
+    {
+        yes(self.form.call_at_once(place, WordCall::IsShut))
+    }
+
     /// A receipt of what a place has seen of the one history: a witness for whoever asks what the place's calls were. Costs one load, and takes no bytes.
     pub fn receipt(&self, place: &mut Place) -> Receipt
         requires { IsDealtBy self.now place.old }
@@ -378,6 +400,7 @@ fn taken(answer: Answer) -> Result<(), Error>
 {
     match answer {
         Answer::Taken(Err(error)) => Err(error),
+        Answer::Taken(Ok(false)) => Err(Error::Closed),
         _ => Ok(()),
     }
 }

@@ -1,4 +1,4 @@
-//! What a semaphore does for callers with no place: they take permits where they are there at once, give back and read.
+//! What a semaphore does for callers with no place: they take permits where they are there at once, give back, shut it and read.
 //!
 //! A call by a kept visitor ends in `_by`. One that ends in `_once` is by a visitor that comes for this call alone, and gives it out beside the answer, so
 //! that contracts can say what the call did. Both are held to `specs/Visits.antt`.
@@ -6,7 +6,7 @@
 ghost use Rattle.std.specs.Prelude.{◌≡◌, [], ◌∷◌, ◌++◌};
 ghost use Rattle.saa_word_steps.specs.declared.call.Answer.{Answer};
 ghost use Rattle.saa_word_steps.specs.declared.call.Answer.TheVariants.{Number};
-ghost use Rattle.saa_word_steps.specs.declared.call.WordCall.TheVariants.{Try, Release, Available};
+ghost use Rattle.saa_word_steps.specs.declared.call.WordCall.TheVariants.{Try, Release, Available, Shut, IsShut};
 ghost use Rattle.saa_word_threads.specs.Dealt.{IsLedTo, numbers};
 ghost use Rattle.saa_word_threads.specs.Public.{is_yes};
 ghost use Rattle.saa_word_threads.specs.Kept.{departed};
@@ -20,13 +20,13 @@ use crate::visitor::Visitor;
 use crate::watch::Unwatched;
 use crate::words::Words;
 use saa_word_steps::call::{Answer, WordCall};
-use saa_word_steps::place::Reading;
+use saa_word_steps::place::{Reading, Stage};
 use std::sync::Wait;
 
 impl<const MAX: usize> SemaphoreOf<MAX> {
     ghost use Rattle.saa_word_threads.specs.Semaphores.{IsVisited, IsVisitedOnce, IsVisitorOf, about_of, table_of};
 
-    /// A visitor enters: it takes permits where they are there at once, gives back and reads, and never waits for a permit.
+    /// A visitor enters: it takes permits where they are there at once, gives back, shuts and reads, and never waits for a permit.
     ///
     /// There may be any number of visitors, and any thread may make one. Costs one load.
     #[inline(always)]
@@ -85,6 +85,29 @@ impl<const MAX: usize> SemaphoreOf<MAX> {
         }
     }
 
+    /// [`Self::shut`] by a visitor.
+    pub fn shut_by<R: Wait>(&self, rt: &R, visitor: &mut Visitor) -> bool
+        requires { IsVisitorOf self.now visitor.old }
+        ensures { (answer : Answer) × (result ≡ is_yes answer) × IsVisited self.now Shut visitor.old answer visitor.new }
+    {
+        let call = WordCall::Shut;
+        yes(
+            self.form
+                .visit_call(rt, &Unwatched, visitor, call, Stage::PoisonLoad),
+        )
+    }
+
+    /// [`Self::is_shut`] by a visitor.
+    pub fn is_shut_by(&self, visitor: &mut Visitor) -> bool
+        requires { IsVisitorOf self.now visitor.old }
+        ensures { (answer : Answer) × (result ≡ is_yes answer) × IsVisited self.now IsShut visitor.old answer visitor.new }
+    {
+        yes(
+            self.form
+                .visit_read(visitor, WordCall::IsShut, Reading::IsPoisoned),
+        )
+    }
+
     /// [`Self::try_acquire_many`] with no place. Costs one load more.
     #[inline(always)]
     pub fn try_acquire_many_once<R: Wait>(&self, rt: &R, count: usize) -> (bool, Visitor)
@@ -112,6 +135,24 @@ impl<const MAX: usize> SemaphoreOf<MAX> {
         let mut visitor = self.visit();
         let available = self.available_permits_by(&mut visitor);
         (available, visitor)
+    }
+
+    /// [`Self::shut`] with no place. Costs one load more.
+    pub fn shut_once<R: Wait>(&self, rt: &R) -> (bool, Visitor)
+        ensures { (answer : Answer) × (result.0 ≡ is_yes answer) × IsVisitedOnce self.now Shut answer result.1 }
+    {
+        let mut visitor = self.visit();
+        let done = self.shut_by(rt, &mut visitor);
+        (done, visitor)
+    }
+
+    /// [`Self::is_shut`] with no place. Costs one load more.
+    pub fn is_shut_once(&self) -> (bool, Visitor)
+        ensures { (answer : Answer) × (result.0 ≡ is_yes answer) × IsVisitedOnce self.now IsShut answer result.1 }
+    {
+        let mut visitor = self.visit();
+        let found = self.is_shut_by(&mut visitor);
+        (found, visitor)
     }
 
     /// A receipt of what a visitor has seen, as [`Self::receipt`] gives one of a place.

@@ -11,3 +11,5 @@ mod guards;
 mod looking;
 #[cfg(test)]
 mod permit_values;
+#[cfg(test)]
+mod shut;

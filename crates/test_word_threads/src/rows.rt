@@ -72,7 +72,7 @@ const RELEASED: Story = Story {
     ],
 };
 
-static STORIES: [Story; 10] = [
+static STORIES: [Story; 12] = [
     Story {
         name: "a release that fits later",
         withheld: 0,
@@ -183,6 +183,50 @@ static STORIES: [Story; 10] = [
         ],
         all_leave: true,
         words: &[(Word::Main, Some(60))],
+    },
+    Story {
+        name: "shut while one waits",
+        withheld: 0,
+        places: 2,
+        rows: &[
+            (0, Call::Try(60), Told::Bool(true)),
+            (1, Call::Register(10), Told::Bool(true)),
+            (0, Call::IsShut, Told::Bool(false)),
+            (0, Call::Shut, Told::Bool(true)),
+            (1, Call::TryPoll, Told::Polled(Err(Error::Closed))),
+            (1, Call::TryPoll, Told::Polled(Err(Error::NotRegistered))),
+            (0, Call::IsShut, Told::Bool(true)),
+            (0, Call::Shut, Told::Bool(false)),
+            (0, Call::Try(1), Told::Bool(false)),
+            (0, Call::Available, Told::Number(3)),
+            (1, Call::Register(1), Told::Bool(true)),
+            (1, Call::Poll, Told::Polled(Err(Error::Closed))),
+            (1, Call::Acquire(1), Told::Bool(false)),
+            (0, Call::Release(60), Told::Bool(true)),
+            (0, Call::Release(1), Told::Bool(false)),
+            (0, Call::Available, Told::Number(63)),
+        ],
+        all_leave: true,
+        // The bit of poison, 17, and nothing that is out.
+        words: &[(Word::Main, Some(1 << 17))],
+    },
+    Story {
+        name: "shut with no place",
+        withheld: 63,
+        places: 1,
+        rows: &[
+            (0, Call::Register(1), Told::Bool(true)),
+            (0, Call::IsShutOnce, Told::Bool(false)),
+            (0, Call::ShutOnce, Told::Bool(true)),
+            (0, Call::ShutOnce, Told::Bool(false)),
+            (0, Call::IsShutOnce, Told::Bool(true)),
+            (0, Call::Poll, Told::Polled(Err(Error::Closed))),
+            (0, Call::ReleaseOnce(3), Told::Bool(true)),
+            (0, Call::TryOnce(1), Told::Bool(false)),
+            (0, Call::AvailableOnce, Told::Number(3)),
+        ],
+        all_leave: true,
+        words: &[(Word::Main, Some(60 + (1 << 17)))],
     },
 ];
 

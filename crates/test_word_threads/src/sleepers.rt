@@ -6,7 +6,7 @@
 ghost use Rattle.std.specs.Prelude.{◌<◌};
 
 use crate::worker::{Call, Told, Worker, last_of, main_of, workers_of};
-use saa_word_threads::semaphore::Semaphore;
+use saa_word_threads::semaphore::{Error, Semaphore};
 use saa_word_threads::testing::is_parked_at;
 use std::alloc::{AllocError, AllocGlobal};
 use std::sync::Wait;
@@ -18,12 +18,15 @@ use test_asserts::same;
 // How many wait for a permit each.
 const SLEEPERS: u64 = 24;
 
-// How the sleepers are answered: what the giver calls before they come, the call that answers some of them, and how many these are.
+// How the sleepers are answered: what the giver calls before they come, the call that answers some of them, how many these are, what their polls are
+// told, and the main word once all have left.
 #[derive(Clone, Copy)]
 struct Way {
     before: &'static [Call],
     call: Call,
     count: u64,
+    told: Told,
+    main: u64,
 }
 
 // What is told of the sleepers: how many have ended, and how many of these as their turn came.
@@ -34,10 +37,10 @@ struct Watched {
 }
 
 // Waits for its answer, and tells whether it ends together with the waiters that are answered with it.
-fn sleep(rt: &impl Wait, mut worker: Worker<'_, 63>, turn: u64, count: u64, watched: &Watched) {
+fn sleep(rt: &impl Wait, mut worker: Worker<'_, 63>, turn: u64, way: Way, watched: &Watched) {
     let told = worker.make(rt, Call::Poll);
     let rank = watched.ended.fetch_add(1, Ordering::SeqCst);
-    if told == Told::Polled(Ok(())) && rank / count.max(1) == turn {
+    if told == way.told && rank / way.count.max(1) == turn {
         watched.in_turn.fetch_add(1, Ordering::SeqCst);
     }
     worker.leave(rt);
@@ -99,7 +102,7 @@ fn early_of<R: Wait + Threads + Sync>(
             worker.make(rt, Call::Register(1));
             let turn = before / way.count.max(1);
             if scope
-                .spawn(move || sleep(rt, worker, turn, way.count, watched))
+                .spawn(move || sleep(rt, worker, turn, way, watched))
                 .is_err()
             {
                 watched.ended.fetch_add(1, Ordering::SeqCst);
@@ -134,37 +137,56 @@ fn run<R: Wait + Threads + Sync + AllocGlobal>(rt: &R, way: Way) -> Result<Ended
     Ok((early, in_turn, main_of(rt, semaphore, witness)))
 }
 
-// By releases of so many permits, at a place or with none, or by the oldest waiter, which cancels.
-static WAYS: [Way; 6] = [
+// By releases of one permit after another.
+const ONE_BY_ONE: Way = Way {
+    before: &[],
+    call: Call::Release(1),
+    count: 1,
+    told: Told::Polled(Ok(())),
+    main: 63,
+};
+
+// By a shut, which answers all of them, and leaves what is out as it is.
+const SHUT: Way = Way {
+    before: &[],
+    call: Call::Shut,
+    count: SLEEPERS,
+    told: Told::Polled(Err(Error::Closed)),
+    main: 63 + (1 << 17),
+};
+
+// By releases and shuts, at a place or with none, or by the oldest waiter, which cancels.
+static WAYS: [Way; 8] = [
+    ONE_BY_ONE,
     Way {
-        before: &[],
-        call: Call::Release(1),
-        count: 1,
-    },
-    Way {
-        before: &[],
         call: Call::Release(4),
         count: 4,
+        ..ONE_BY_ONE
     },
     Way {
-        before: &[],
         call: Call::Release(24),
         count: SLEEPERS,
+        ..ONE_BY_ONE
     },
     Way {
-        before: &[],
         call: Call::ReleaseOnce(1),
-        count: 1,
+        ..ONE_BY_ONE
     },
     Way {
-        before: &[],
         call: Call::ReleaseOnce(24),
         count: SLEEPERS,
+        ..ONE_BY_ONE
     },
     Way {
         before: &[Call::Register(40), Call::Release(24)],
         call: Call::Cancel,
         count: SLEEPERS,
+        ..ONE_BY_ONE
+    },
+    SHUT,
+    Way {
+        call: Call::ShutOnce,
+        ..SHUT
     },
 ];
 
@@ -174,7 +196,7 @@ fn first_other<R: Wait + Threads + Sync + AllocGlobal>(
 ) -> Result<Option<(usize, Ended)>, AllocError> {
     for (place, way) in WAYS.iter().enumerate() {
         let ended = run(rt, *way)?;
-        if ended != (0, SLEEPERS, Some(63)) {
+        if ended != (0, SLEEPERS, Some(way.main)) {
             return Ok(Some((place, ended)));
         }
     }

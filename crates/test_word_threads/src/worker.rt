@@ -27,10 +27,14 @@ pub enum Call {
     Poll,
     Cancel,
     Available,
+    Shut,
+    IsShut,
     // With no place.
     TryOnce(usize),
     ReleaseOnce(usize),
     AvailableOnce,
+    ShutOnce,
+    IsShutOnce,
 }
 
 /// What a call answers.
@@ -64,9 +68,13 @@ fn make<const MAX: usize>(
             Told::Nothing
         }
         Call::Available => Told::Number(semaphore.available_permits(place)),
+        Call::Shut => Told::Bool(semaphore.shut(rt, place)),
+        Call::IsShut => Told::Bool(semaphore.is_shut(place)),
         Call::TryOnce(count) => Told::Bool(semaphore.try_acquire_many_once(rt, count).0),
         Call::ReleaseOnce(count) => Told::Bool(semaphore.release_many_once(rt, count).0),
         Call::AvailableOnce => Told::Number(semaphore.available_permits_once().0),
+        Call::ShutOnce => Told::Bool(semaphore.shut_once(rt).0),
+        Call::IsShutOnce => Told::Bool(semaphore.is_shut_once().0),
     }
 }
 

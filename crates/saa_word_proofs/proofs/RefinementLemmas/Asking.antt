@@ -34,7 +34,6 @@ step-ReadLoad needs lawful wide places row standing state me room s reading at =
   last = state;
   run = ((sym s.main.count, sym s.main.poison), refl);
   names = refl;
-  calm = λ semaphore. refl;
   inside = omega arith;
   stands = loaded needs places row (updated standing me (record (standing me) { stage = Quiet })) state 0
       (moved needs places row standing state me s (record (standing me) { stage = Quiet }) (λ out. refl) refl tt tt (λ gives. absurd (cc)) tt
@@ -60,7 +59,7 @@ neither false other clear = absurd (cc)
 abbrev next_by : Needs → Place → Ask → Word → Bool → Next
 next_by needs place ask seen is_poisoned =
     if is_poisoned
-    then found_poisoned place ask
+    then found_poisoned needs place ask
     else (if waits_behind needs seen ask.request
     then (if ask.joins then going place (Prepare ask.request seen) else done place (tried_answer needs false))
     else (if needs.takes ask.request == 0 then granted needs place ask else going place (AcquireExchange ask seen)))
@@ -96,7 +95,6 @@ decided-outcome needs wide places row standing state me s none nothing ask unjoi
             last = state;
             run = (sym s.main.poison ∙ poisoned, refl);
             names = refl;
-            calm = λ semaphore. refl;
             stands = moved needs places row standing state me s (record (standing me) { registration = AnsweredAtOnce poisoned_value ask.request; stage = Quiet }) (λ out. refl)
                 (sym (idle joins)) tt tt still tt nothing (sym none) (λ is. absurd (no_holder is));
           })
@@ -105,7 +103,6 @@ decided-outcome needs wide places row standing state me s none nothing ask unjoi
             last = state;
             run = (sym s.main.poison ∙ poisoned, refl);
             names = refl;
-            calm = λ semaphore. refl;
             stands = moved needs places row standing state me s (record (standing me) { stage = Quiet }) (λ out. refl) refl
                 tt tt still tt nothing (sym none) (λ is. absurd (no_holder is));
           })
@@ -122,7 +119,6 @@ decided-outcome needs wide places row standing state me s none nothing ask unjoi
                   last = state;
                   run = refl;
                   names = refl;
-                  calm = λ semaphore. refl;
                   stands = moved needs places row standing state me s (record (standing me) { stage = Prepare ask.request seen }) (λ out. (let wrong : true ≡ false = sym joins ∙ unjoined out in absurd (cc))) refl
                       (count-small (row 0)) (small, idle joins, tail-small (row 0), waits, clean) still tt nothing (sym none) (λ is. absurd (no_holder is));
                 })
@@ -131,7 +127,6 @@ decided-outcome needs wide places row standing state me s none nothing ask unjoi
                   last = state;
                   run = ((calm, must), refl);
                   names = refl;
-                  calm = λ semaphore. refl;
                   stands = moved needs places row standing state me s (record (standing me) { stage = Quiet }) (λ out. refl) refl
                       tt tt still tt nothing (sym none) (λ is. absurd (no_holder is));
                 })
@@ -150,7 +145,6 @@ decided-outcome needs wide places row standing state me s none nothing ask unjoi
                         last = state;
                         run = ((calm, alone, fits), same);
                         names = refl;
-                        calm = λ semaphore. refl;
                         stands = moved needs places row standing state me s (record (standing me) { registration = AnsweredAtOnce 0 ask.request; stage = Quiet }) (λ out. refl)
                             (sym (idle joins)) tt tt still tt nothing (sym none) (λ is. absurd (no_holder is));
                       })
@@ -159,7 +153,6 @@ decided-outcome needs wide places row standing state me s none nothing ask unjoi
                         last = state;
                         run = ((calm, alone, fits), same);
                         names = refl;
-                        calm = λ semaphore. refl;
                         stands = moved needs places row standing state me s (record (standing me) { stage = Quiet }) (λ out. refl) refl
                             tt tt still tt nothing (sym none) (λ is. absurd (no_holder is));
                       })
@@ -169,7 +162,6 @@ decided-outcome needs wide places row standing state me s none nothing ask unjoi
                   last = state;
                   run = refl;
                   names = refl;
-                  calm = λ semaphore. refl;
                   stands = moved needs places row standing state me s (record (standing me) { stage = AcquireExchange ask seen }) unjoined refl
                       (count-small (row 0), both.1) (small, idle, both.0, clean) still tt nothing (sym none) (λ is. absurd (no_holder is));
                 })

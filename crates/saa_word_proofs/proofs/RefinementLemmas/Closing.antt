@@ -53,7 +53,6 @@ closed-step needs lawful places row standing state me s seen count top same mine
       last = granted needs state me work.front rest false;
       run = grant.run;
       names = grant.names;
-      calm = λ semaphore. grant.calm;
       inside = omega arith;
       stands =
           elim (cases_Bool (top == 0)) [
@@ -90,7 +89,6 @@ missed-step needs places row standing state me s seen count top at differs mine 
       last = state;
       run = refl;
       names = refl;
-      calm = λ semaphore. refl;
       inside = omega arith;
       stands =
           elim (cases_Bool ((main_of row).count == seen.count)) [

@@ -113,7 +113,6 @@ step-CutToClose needs lawful wide places row standing state me room s seen curre
       last = state;
       run = refl;
       names = refl;
-      calm = λ semaphore. refl;
       inside = cut-inside places row standing state seen knows.0 current s.seats knows.3;
       stands = cut needs places row standing state me s seen knows.0 current line (Close seen count line.older) refl (ap is_holder at)
           knows.1 knows.3 knows.4
@@ -146,7 +145,6 @@ step-CutForRetry needs lawful wide places row standing state me room s seen curr
       last = state;
       run = refl;
       names = refl;
-      calm = λ semaphore. refl;
       inside = cut-inside places row standing state seen knows.0 current s.seats knows.3;
       stands = cut needs places row standing state me s seen knows.0 current line (Retry seen count line.older) refl (ap is_holder at)
           knows.1 knows.3 knows.4

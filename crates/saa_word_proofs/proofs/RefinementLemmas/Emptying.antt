@@ -103,7 +103,6 @@ emptied-step needs lawful places row standing state me s seen current count word
       last = granted needs state me all [] false;
       run = grant.run;
       names = grant.names;
-      calm = λ semaphore. grant.calm;
       inside = omega arith;
       stands =
           rw same
@@ -143,7 +142,6 @@ missed-step needs places row standing state me s seen current count word at diff
       last = state;
       run = refl;
       names = refl;
-      calm = λ semaphore. refl;
       inside = omega arith;
       stands =
           elim (cases_Bool (word.older == 0)) [

@@ -43,7 +43,6 @@ flag-outcome needs places row standing state me here s none nothing leaving true
   last = state;
   run = refl;
   names = refl;
-  calm = λ semaphore. refl;
   stands = subst (λ (p : ℕ → Place). Invariant needs places row p state) (sym (updated-same standing me (standing me) refl)) s;
 }
 flag-outcome needs places row standing state me here s none nothing leaving false true clear nobody =
@@ -55,7 +54,6 @@ flag-outcome needs places row standing state me here s none nothing leaving fals
       last = state;
       run = refl;
       names = refl;
-      calm = λ semaphore. refl;
       stands = subst (λ (p : Place). Invariant needs places row (updated standing me p) state) (sym (ended (standing me) back))
           (moved needs places row standing state me s (record (standing me) { stage = end_stage back }) (λ out. absurd (omega (arith, out, here))) refl
           (ended-ranged needs back) (ended-alone needs registration back (returning-leaving registration back leaving))
@@ -67,7 +65,6 @@ flag-outcome needs places row standing state me here s none nothing leaving fals
   last = state;
   run = refl;
   names = refl;
-  calm = λ semaphore. refl;
   stands = moved needs places row standing state me s (record (standing me) { stage = FlagExchange (main_of row) }) (λ out. absurd (omega (arith, out, here))) refl
       (count-small (row 0)) (leaving, tail-small (row 0), some, clear) (λ gives. absurd (cc)) tt nothing (sym none)
       (λ it. absurd (not-holder needs places row standing state me s none it));
@@ -174,7 +171,6 @@ step-FlagExchange needs lawful wide places row standing state me room here s see
         last = state;
         run = refl;
         names = refl;
-        calm = λ semaphore. refl;
         inside = omega arith;
         stands = rw same (flag-set needs places row standing state me here s nothing alone.0 seen small alone.1 alone.2 alone.3
             (main-found (row 0) seen small alone.1 same));

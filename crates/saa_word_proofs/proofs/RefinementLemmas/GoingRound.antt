@@ -93,7 +93,6 @@ step-Retry needs lawful wide places row standing state me room s seen count top 
       last = granted needs state me work.front rest state.unclosed;
       run = grant.run;
       names = grant.names;
-      calm = λ semaphore. grant.calm;
       inside = omega arith;
       stands =
           elim (cases_Bool (top == 0)) [

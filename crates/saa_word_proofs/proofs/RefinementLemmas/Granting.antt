@@ -18,7 +18,6 @@ use Rattle.saa_word_steps.specs.Steps.{IsRanged, settled_word}
 use Rattle.saa_word_proofs.specs.Refinement.{joins_line, newest, is_holder, gives_up, IsLocallyTrue, IsOwn, IsShowing, IsHolding, IsMain, IsLine, AreSeats, AreDebts, Invariant}
 use Rattle.saa_word_proofs.specs.Rows.{IsBehind, line_of, updated}
 use Rattle.saa_word_proofs.specs.Registering.{is_slot}
-use Rattle.saa_word_proofs.specs.StepRefinement.{never_poisons}
 use Rattle.saa_word_proofs.specs.History.{named, of_place}
 use Rattle.saa_word_proofs.proofs.RefinementLemmas.Lists.{each-updated, in-append, in-none, newest-append, newest-any, newest-empty, empty-nil, take-front, drop-front}
 use Rattle.saa_word_proofs.proofs.RefinementLemmas.Frames.{stages-next}
@@ -40,7 +39,6 @@ pub record IsGrant (needs : Needs) (state : AbstractState) (me : ℕ) (last : Ab
   pub events : List Event
   pub run : IsRun needs state (of_place me events) last
   pub names : named events ≡ []
-  pub calm : never_poisons events ≡ true
 
 -- Lines
 
@@ -149,14 +147,13 @@ granted-none needs state me rest unclosed parts same = same-state state (state.c
 pub round-run : (needs : Needs) (state : AbstractState) (me : ℕ) (front rest : List (ℕ × ℕ)) → state.line ≡ front ++ rest → IsFront needs state.count front
     → (state.unclosed ≡ false → IsSettledAt needs state.count state.line) → IsGrant needs state me (granted needs state me front rest state.unclosed)
 round-run needs state me [] rest parts fits settled =
-    record { events = []; run = granted-none needs state me rest state.unclosed parts refl; names = refl; calm = refl }
+    record { events = []; run = granted-none needs state me rest state.unclosed parts refl; names = refl }
 round-run needs state me (asker ∷ more) rest parts fits settled =
     elim (cases_Bool state.unclosed) [
       | inl opened ↦ record {
         events = Granted (length (asker ∷ more)) ∷ [];
         run = (granted-allowed needs state me (asker ∷ more) rest parts opened refl fits, after-granted needs state me (asker ∷ more) rest parts);
         names = refl;
-        calm = refl;
       }
       | inr closed ↦
           let none : asker ∷ more ≡ [] = settled-front needs state.count state.line (asker ∷ more) rest parts fits (settled closed) in
@@ -180,9 +177,8 @@ close-run needs state me [] rest parts fits closes settled =
           ap (λ (z : AbstractState). record z { unclosed = false }) (granted-none needs state me rest state.unclosed parts refl),
         );
         names = refl;
-        calm = refl;
       }
-      | inr closed ↦ record { events = []; run = granted-none needs state me rest false parts closed; names = refl; calm = refl }
+      | inr closed ↦ record { events = []; run = granted-none needs state me rest false parts closed; names = refl }
     ]
 close-run needs state me (asker ∷ more) rest parts fits closes settled =
     elim (cases_Bool state.unclosed) [
@@ -198,7 +194,6 @@ close-run needs state me (asker ∷ more) rest parts fits closes settled =
               ),
             );
             names = refl;
-            calm = refl;
           }
       | inr closed ↦
           let none : asker ∷ more ≡ [] = settled-front needs state.count state.line (asker ∷ more) rest parts fits (settled closed) in

@@ -10,7 +10,7 @@ use Rattle.saa_word_steps.specs.declared.place.Place.{Place}
 use Rattle.saa_word_steps.specs.declared.place.AfterShow.TheVariants.{Ends, Again}
 use Rattle.saa_word_steps.specs.declared.place.Stage.{Stage}
 use Rattle.saa_word_steps.specs.declared.place.Stage.TheVariants.{Quiet, ReadLoad, AcquireLoad, AcquireExchange, Prepare, Join, ReleaseLoad, ReleaseExchange, BackLoad, BackStore, Forward, CutToClose, CutForRetry, Close, Empty, Retry, ShowLoad, ShowStore, Take, FlagLoad, FlagExchange, LookLoad, LookStore, Unlink, DropTail, PoisonLoad, PoisonExchange, Clear}
-use Rattle.saa_word_steps.specs.Needs.{Needs}
+use Rattle.saa_word_steps.specs.Needs.{Needs, kept}
 use Rattle.saa_word_steps.specs.AbstractState.{AbstractState, is_empty, IsSettledAt}
 use Rattle.saa_word_steps.specs.Steps.{IsSmall}
 use Rattle.saa_word_proofs.specs.Refinement.{newest, Work, IsHolding, IsMain, Invariant}
@@ -83,7 +83,7 @@ nobody-holds needs places row standing state s none =
 -- the main word that an exchange has written
 pub main-now : (needs : Needs) (state : AbstractState) (holder : ℕ) (word : Word) → IsSmall word → word.tail < 65536
     → word.count ≡ state.count → word.tail ≡ newest 0 state.line → word.is_flagged ≡ not (holder == 0) → word.is_poisoned ≡ state.poisoned
-    → (state.poisoned ≡ true → (state.count ≡ 0) × (state.line ≡ []) × (needs.is_lock ≡ true)) → state.count ≤ needs.top → ((holder == 0) ≡ true → state.unclosed ≡ false)
+    → (state.poisoned ≡ true → (state.count ≡ kept needs state.count) × (state.line ≡ [])) → state.count ≤ needs.top → ((holder == 0) ≡ true → state.unclosed ≡ false)
     → (state.unclosed ≡ false → IsSettledAt needs state.count state.line) → IsMain needs (word_number count_bits word) state holder
 main-now needs state holder word small tail_small count tail flag poison barren bounded closed settled =
     let read = word-read count_bits word small tail_small in record {
@@ -121,5 +121,5 @@ calm-held needs places row standing state me s held =
 
 -- what isn't poisoned isn't barren
 pub never-barren : (needs : Needs) (state : AbstractState) → state.poisoned ≡ false → state.poisoned ≡ true
-    → (state.count ≡ 0) × (state.line ≡ []) × (needs.is_lock ≡ true)
+    → (state.count ≡ kept needs state.count) × (state.line ≡ [])
 never-barren needs state calm poisoned = let wrong : true ≡ false = sym poisoned ∙ calm in absurd (cc)

@@ -99,7 +99,6 @@ step-AcquireExchange needs lawful wide places row standing state me room s ask s
               last = record state { count = state.count + needs.takes ask.request };
               run = ((calm, tail, fits), refl);
               names = rw same refl;
-              calm = λ semaphore. refl;
               inside = omega arith;
               stands = rw (same, joins) (raised needs lawful wide places row standing state me s none nothing calm ask.request seen ranged.0 is
                   alone.2 ranged.1 (record (standing me) { registration = AnsweredAtOnce 0 ask.request; stage = Quiet }) refl (sym (alone.1 joins)));
@@ -109,7 +108,6 @@ step-AcquireExchange needs lawful wide places row standing state me room s ask s
               last = record state { count = state.count + needs.takes ask.request };
               run = ((calm, tail, fits), refl);
               names = rw same refl;
-              calm = λ semaphore. refl;
               inside = omega arith;
               stands = rw (same, tries) (raised needs lawful wide places row standing state me s none nothing calm ask.request seen ranged.0 is
                   alone.2 ranged.1 (record (standing me) { stage = Quiet }) refl refl);
@@ -160,7 +158,6 @@ step-Prepare needs lawful wide places row standing state me room here s request 
       last = state;
       run = refl;
       names = refl;
-      calm = λ semaphore. refl;
       inside = omega (arith, here);
       stands = record {
         holder = s.holder;
@@ -303,7 +300,6 @@ step-Join needs lawful wide places row standing state me room here s request see
             last = record state { line = state.line ++ (me, request) ∷ [] };
             run = ((calm, waits, in-none me state.line out.0, none-of (state.due me) out.1, none-of (state.shown me) out.2), refl);
             names = rw same refl;
-            calm = λ semaphore. refl;
             inside = omega arith;
             stands = rw same (joined needs lawful wide places row standing state me room here s none nothing calm request seen ranged alone.1 is waits own);
           }

@@ -75,7 +75,6 @@ step-LookLoad needs lawful wide places row standing state me room here s seen cu
       last = state;
       run = refl;
       names = refl;
-      calm = λ semaphore. refl;
       inside = omega (arith, there.1, seat.0);
       stands =
           elim (cases_Bool (current == me + 1)) [
@@ -142,7 +141,6 @@ step-LookStore needs lawful wide places row standing state me room here s seen c
       last = state;
       run = refl;
       names = refl;
-      calm = λ semaphore. refl;
       inside = omega (arith, store.link, store.inside);
       stands =
           elim (cases_Bool (line.older == 0)) [

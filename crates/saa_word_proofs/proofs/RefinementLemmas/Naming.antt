@@ -1,16 +1,13 @@
 -- What a call has named where it goes on, by each kind of step: its events name its answer once it is done.
 use Rattle.std.proofs.Common.{◌≡◌, ◌≢◌, ℕ, Bool, true, false, not, ◌&&◌, ◌||◌, List, [], ◌∷◌, ◌++◌, ◌==◌, Option, Some, None, if◌then◌else◌, refl, sym, ap, subst, ◌∙◌, inl, inr, append-nil}
 use Rattle.std.proofs.lemmas.Bool.{cases_Bool}
-use Rattle.saa_core_spec.specs.Held.{Exclusive}
 use Rattle.saa_core_spec.specs.Values.{granted_value}
-use Rattle.saa_core_spec.specs.Lock.{try_answer}
 use Rattle.saa_core_spec.proofs.Counts.{number_same, same_number}
 use Rattle.saa_core_words.specs.declared.word.Word.{Word}
-use Rattle.saa_core_words.specs.Words.{lock_count}
 use Rattle.saa_word_steps.specs.declared.call.WordCall.{WordCall}
-use Rattle.saa_word_steps.specs.declared.call.WordCall.TheVariants.{Try, Register, Release, Available, TryLock, TryShare, RegisterMode, ReleaseLock, ReleaseShare, Downgrade, PoisonLock, IsFree, IsLocked, IsShared, IsPoisoned, TryPoll, Poll, Cancel}
+use Rattle.saa_word_steps.specs.declared.call.WordCall.TheVariants.{Try, Register, Release, Available, Shut, IsShut, TryLock, TryShare, RegisterMode, ReleaseLock, ReleaseShare, Downgrade, PoisonLock, IsFree, IsLocked, IsShared, IsPoisoned, TryPoll, Poll, Cancel}
 use Rattle.saa_word_steps.specs.declared.call.Answer.{Answer}
-use Rattle.saa_word_steps.specs.declared.call.Answer.TheVariants.{Bool as Says, Tried, Unit as Ended}
+use Rattle.saa_word_steps.specs.declared.call.Answer.TheVariants.{Bool as Says, Unit as Ended}
 use Rattle.saa_word_steps.specs.declared.place.Place.{Place}
 use Rattle.saa_word_steps.specs.declared.place.ReleaseAmount.{ReleaseAmount}
 use Rattle.saa_word_steps.specs.declared.place.ReleaseAmount.TheVariants.{Requested, AllButAShare}
@@ -27,15 +24,15 @@ use Rattle.saa_word_steps.specs.declared.place.AfterShow.TheVariants.{Ends, Agai
 use Rattle.saa_word_steps.specs.declared.place.Next.{Next}
 use Rattle.saa_word_steps.specs.declared.place.Stage.{Stage}
 use Rattle.saa_word_steps.specs.declared.place.Stage.TheVariants.{Take}
-use Rattle.saa_word_steps.specs.Needs.{Needs}
+use Rattle.saa_word_steps.specs.Needs.{Needs, forgets, may_refuse}
 use Rattle.saa_word_steps.specs.declared.event.Event.{Event}
 use Rattle.saa_word_steps.specs.declared.event.Event.TheVariants.{Acquired, Refused, AskedPoisoned, Cancelled, Poisoned, NotPoisoned, NotReady, AnswerTaken}
 use Rattle.saa_word_steps.specs.Steps.{left_from, decided, granted, found_poisoned, finished, given, given_to, gave_nothing, dropped, taken_answer, shown_all, flagging, poisoning}
-use Rattle.saa_word_steps.specs.Readings.{tried_answer}
+use Rattle.saa_word_steps.specs.Readings.{refusing_answer, tried_answer}
 use Rattle.saa_word_proofs.specs.Refinement.{waits_behind}
 use Rattle.saa_word_proofs.specs.StepRefinement.{gave, gave_not, decided_events, given_events, left_events, taken_events, poisoning_events}
-use Rattle.saa_word_proofs.specs.Calls.{answer_named, ask_named, release_named, read_named, poll_named, asked_by, is_taken_up, IsDropped, IsCancelled, IsAnswered}
-use Rattle.saa_word_proofs.specs.CallStages.{IsGivingUp, IsLeavingLine, IsReleasing, IsTaking, IsUnder, IsUnderNext, IsWorking, given_by, read_by, taken_by}
+use Rattle.saa_word_proofs.specs.Calls.{answer_named, ask_named, release_named, read_named, poll_named, poison_named, asked_by, is_taken_up, IsDropped, IsCancelled, IsAnswered}
+use Rattle.saa_word_proofs.specs.CallStages.{IsGivingUp, IsLeavingLine, IsReleasing, IsTaking, IsUnder, IsUnderNext, IsWorking, given_by, is_poisoning, read_by, taken_by}
 
 -- Events that name an answer
 
@@ -96,6 +93,7 @@ read-answered needs IsFree registered reading event answer is names = (event, re
 read-answered needs IsLocked registered reading event answer is names = (event, refl, ap (λ (r : Option Reading). read_names needs r event) is ∙ names)
 read-answered needs IsShared registered reading event answer is names = (event, refl, ap (λ (r : Option Reading). read_names needs r event) is ∙ names)
 read-answered needs IsPoisoned registered reading event answer is names = (event, refl, ap (λ (r : Option Reading). read_names needs r event) is ∙ names)
+read-answered needs IsShut registered reading event answer is names = (event, refl, ap (λ (r : Option Reading). read_names needs r event) is ∙ names)
 read-answered needs call registered reading event answer is names = absurd (cc)
 
 -- whether a poll may be told that it isn't its turn yet
@@ -137,13 +135,13 @@ granted-under needs call registered stage place ask is =
       | inr tries ↦ rw tries (ask-answered needs call registered ask (Acquired ask.request) (tried_answer needs true) is (rw (number_same ask.request, tries) refl))
     ]
 
--- who finds a poisoned lock has named that
+-- who finds a poisoned lock, or a shut semaphore, has named that
 poisoned-under : (needs : Needs) (call : WordCall) (registered : Registration) (stage : Stage) (place : Place) (ask : Ask) → asked_by call ≡ Some ask
-    → IsUnderNext needs call registered place.back stage (AskedPoisoned ∷ []) (found_poisoned place ask)
+    → IsUnderNext needs call registered place.back stage (AskedPoisoned ∷ []) (found_poisoned needs place ask)
 poisoned-under needs call registered stage place ask is =
     elim (cases_Bool ask.joins) [
       | inl joins ↦ rw joins (ask-answered needs call registered ask AskedPoisoned (Says true) is (rw joins refl))
-      | inr tries ↦ rw tries (ask-answered needs call registered ask AskedPoisoned (Tried (try_answer false true)) is (rw tries refl))
+      | inr tries ↦ rw tries (ask-answered needs call registered ask AskedPoisoned (refusing_answer needs) is (rw tries refl))
     ]
 
 -- an ask for so much
@@ -257,7 +255,7 @@ pub given-under : (needs : Needs) (call : WordCall) (registered : Registration) 
     → IsReleasing needs call registered place.back what events
     → IsUnderNext needs call registered place.back stage (events ++ given_events needs what seen) (given needs place what seen)
 given-under needs call registered stage place what seen events releasing =
-    tested-under needs call registered stage place what seen events seen.is_poisoned releasing
+    tested-under needs call registered stage place what seen events (forgets needs seen.is_poisoned) releasing
 
 -- Answers that are taken
 
@@ -334,13 +332,26 @@ flagging-under needs call registered stage place seen events leaving stays =
 
 -- Poison
 
+-- an event names the answer of poison and of a shut, which aren't a cancel
+poison-names : (needs : Needs) (call : WordCall) (event : Event) → is_poisoning needs.is_lock call ≡ true
+    → (answer_named needs call event ≡ poison_named event) × (call ≢ Cancel)
+poison-names needs PoisonLock event is = (refl, λ cancel. absurd (cc))
+poison-names needs Shut event is = (refl, λ cancel. absurd (cc))
+poison-names needs call event is = absurd (cc)
+
+poison-answered : (needs : Needs) (call : WordCall) (registered : Registration) (event : Event) (answer : Answer) → is_poisoning needs.is_lock call ≡ true
+    → poison_named event ≡ Some answer → IsAnswered needs call registered (event ∷ []) answer
+poison-answered needs PoisonLock registered event answer is names = (event, refl, names)
+poison-answered needs Shut registered event answer is names = (event, refl, names)
+poison-answered needs call registered event answer is names = absurd (cc)
+
 -- poison that is decided; where it waits, it stays where it was
 pub poisoning-under : (needs : Needs) (call : WordCall) (registered : Registration) (stage : Stage) (place : Place) (seen : Word)
-    → call ≡ PoisonLock → place.back ≡ Tells → IsUnder needs call registered place.back stage []
-    → IsUnderNext needs call registered place.back stage (poisoning_events seen) (poisoning place seen)
+    → is_poisoning needs.is_lock call ≡ true → place.back ≡ Tells → IsUnder needs call registered place.back stage []
+    → IsUnderNext needs call registered place.back stage (poisoning_events needs seen) (poisoning needs place seen)
 poisoning-under needs call registered stage place seen is tells stays =
-    elim (cases_Bool (seen.is_poisoned || not (seen.count == lock_count Exclusive))) [
-      | inl refused ↦ rw (refused, is) (NotPoisoned, refl, refl)
+    elim (cases_Bool (seen.is_poisoned || not (may_refuse needs seen.count))) [
+      | inl refused ↦ rw refused (poison-answered needs call registered NotPoisoned (Says false) is refl)
       | inr sound ↦
           elim (cases_Bool seen.is_flagged) [
             | inl flagged ↦ rw (sound, flagged) stays
@@ -348,7 +359,8 @@ poisoning-under needs call registered stage place seen is tells stays =
           ]
     ]
 
--- a place that has poisoned the lock works for the waiters
-pub poison-working : (needs : Needs) (call : WordCall) (registered : Registration) (back : AfterWalk) → call ≡ PoisonLock → back ≡ Tells
+-- a place that has poisoned the lock, or shut the semaphore, works for the waiters
+pub poison-working : (needs : Needs) (call : WordCall) (registered : Registration) (back : AfterWalk) → is_poisoning needs.is_lock call ≡ true → back ≡ Tells
     → IsWorking needs call registered back (Poisoned ∷ [])
-poison-working needs call registered back is tells = rw (is, tells) (Poisoned, refl, refl, λ cancel. absurd (cc))
+poison-working needs call registered back is tells =
+    let names = poison-names needs call Poisoned is in rw tells (Poisoned, refl, names.0, names.1)

@@ -10,7 +10,7 @@ use Rattle.saa_word_steps.specs.AbstractState.{AbstractState, IsRun}
 use Rattle.saa_word_steps.specs.Steps.{word_at, written_by, operation_of, next_of}
 use Rattle.saa_word_proofs.specs.Refinement.{is_holder, AreAnswers, Invariant}
 use Rattle.saa_word_proofs.specs.Rows.{updated}
-use Rattle.saa_word_proofs.specs.StepRefinement.{StepRefines, named_at, never_poisons, place_after}
+use Rattle.saa_word_proofs.specs.StepRefinement.{StepRefines, named_at, place_after}
 use Rattle.saa_word_proofs.specs.History.{named, of_place}
 use Rattle.saa_word_proofs.proofs.RefinementLemmas.Rows.{loaded, row-other}
 
@@ -28,7 +28,6 @@ pub record Outcome (needs : Needs) (places : ℕ) (row : ℕ → ℕ) (standing 
   pub last : AbstractState
   pub run : IsRun needs state (of_place me events) last
   pub names : named events ≡ wanted
-  pub calm : needs.is_lock ≡ false → never_poisons events ≡ true
   pub stands : Invariant needs places row (updated standing me (place_after (standing me) next)) last
 
 -- A step that leaves the main word as it was is what its place has come to
@@ -41,7 +40,6 @@ only-looked needs places row standing state me stage {next = next} out main same
   last = out.last;
   run = out.run;
   names = rw (main, names) out.names;
-  calm = out.calm;
   inside = omega (arith, main);
   stands = rw (main, same, goes) (loaded needs places row (updated standing me (place_after (standing me) next)) out.last 0 out.stands);
 }

@@ -1,24 +1,24 @@
--- Steps of a place that poisons a lock or clears poison: each keeps that words and places refine the abstract state.
+-- Steps of a place that poisons a lock or shuts a semaphore, or clears poison: each keeps that words and places refine the abstract state.
 use Rattle.std.proofs.Common.{◌^◌, ◌≡◌, ℕ, ◌+◌, ◌/◌, ◌%◌, ◌<◌, ◌≤◌, Bool, true, false, not, ◌||◌, [], ◌∷◌, ◌==◌, if◌then◌else◌, refl, sym, ap, subst, ◌∙◌, arith, inl, inr, append-nil}
 use Rattle.std.proofs.lemmas.Bool.{cases_Bool}
 use Rattle.std.proofs.lemmas.Bool.Decides.{nat_tests}
-use Rattle.saa_core_spec.specs.Held.{Exclusive}
 use Rattle.saa_core_spec.specs.Object.{one_if}
 use Rattle.saa_core_spec.proofs.Counts.{number_same, same_number, number_other}
 use Rattle.saa_core_words.specs.declared.word.Word.{Word}
 use Rattle.saa_core_words.specs.declared.line_word.LineWord.{LineWord}
-use Rattle.saa_core_words.specs.Words.{count_bits, word_number, word_of, lock_count}
+use Rattle.saa_core_words.specs.Words.{count_bits, word_number, word_of}
 use Rattle.saa_word_steps.specs.declared.place.Place.{Place}
 use Rattle.saa_word_steps.specs.declared.place.AfterShow.TheVariants.{Ends}
 use Rattle.saa_word_steps.specs.declared.place.Next.{Next}
 use Rattle.saa_word_steps.specs.declared.place.Next.TheVariants.{Waits}
 use Rattle.saa_word_steps.specs.declared.place.Stage.{Stage}
 use Rattle.saa_word_steps.specs.declared.place.Stage.TheVariants.{Quiet, ShowLoad, PoisonLoad, PoisonExchange, Clear}
-use Rattle.saa_word_steps.specs.Needs.{Needs, AreNeeds}
+use Rattle.saa_word_steps.specs.Needs.{Needs, AreNeeds, kept, may_refuse}
+use Rattle.saa_word_steps.proofs.Giving.{kept-small, kept-twice}
 use Rattle.saa_word_steps.specs.declared.event.Event.TheVariants.{Poisoned, NotPoisoned, Cleared, NotCleared}
-use Rattle.saa_word_steps.specs.AbstractState.{AbstractState, IsOwned, is_empty, is_in, answered_with, granted_by, held_by}
+use Rattle.saa_word_steps.specs.AbstractState.{AbstractState, MayRefuse, is_empty, is_in, answered_with, granted_by, held_by}
 use Rattle.saa_word_steps.specs.Steps.{IsRanged, going, poisoning, settled_word}
-use Rattle.saa_word_steps.specs.Readings.{poisoned_word}
+use Rattle.saa_word_steps.specs.Readings.{poisoned_word, refusing_word}
 use Rattle.saa_word_proofs.specs.Refinement.{joins_line, newest, is_holder, takes_back, IsLocallyTrue, IsOwn, IsShowing, IsLine, AreDebts, AreStages, Invariant}
 use Rattle.saa_word_proofs.specs.Rows.{line_of, main_of, updated}
 use Rattle.saa_word_proofs.specs.StepRefinement.{StepRefines, poisoning_events}
@@ -51,15 +51,15 @@ not-owned false false test calm = refl
 -- Poison that is decided by the main word as it stands
 poisoning-outcome : (needs : Needs) (places : ℕ) (row : ℕ → ℕ) (standing : ℕ → Place) (state : AbstractState) (me : ℕ)
     → (s : Invariant needs places row standing state) → is_holder (standing me).stage ≡ false → s.owed me ≡ []
-    → needs.is_lock ≡ true → takes_back (standing me).back ≡ false
-    → Outcome needs places row standing state me (poisoning (standing me) (main_of row)) (poisoning_events (main_of row))
-poisoning-outcome needs places row standing state me s none nothing lock tells =
+    → takes_back (standing me).back ≡ false
+    → Outcome needs places row standing state me (poisoning needs (standing me) (main_of row)) (poisoning_events needs (main_of row))
+poisoning-outcome needs places row standing state me s none nothing tells =
     let seen : Word = main_of row in
-    elim (cases_Bool (seen.is_poisoned || not (seen.count == lock_count Exclusive))) [
+    elim (cases_Bool (seen.is_poisoned || not (may_refuse needs seen.count))) [
       | inl refused ↦
-          let other : IsOwned needs state → ⊥ = λ owned.
-          let apart = not-owned seen.is_poisoned (seen.count == lock_count Exclusive) refused (s.main.poison ∙ owned.0) in
-          let same : seen.count == lock_count Exclusive ≡ true = ap (λ (n : ℕ). n == lock_count Exclusive) (s.main.count ∙ owned.1) in
+          let other : MayRefuse needs state → ⊥ = λ owned.
+          let apart = not-owned seen.is_poisoned (may_refuse needs seen.count) refused (s.main.poison ∙ owned.0) in
+          let same : may_refuse needs seen.count ≡ true = ap (may_refuse needs) s.main.count ∙ owned.1 in
           let wrong : true ≡ false = sym same ∙ apart in
           absurd (cc) in
           rw refused (record {
@@ -67,19 +67,17 @@ poisoning-outcome needs places row standing state me s none nothing lock tells =
             last = state;
             run = (other, refl);
             names = refl;
-            calm = λ semaphore. refl;
             stands = moved needs places row standing state me s (record (standing me) { stage = Quiet }) (λ out. refl) refl
                 tt tt (λ gives. absurd (cc)) tt nothing (sym none) (λ is. absurd (not-holder needs places row standing state me s none is));
           })
       | inr owned ↦
-          let both = neither seen.is_poisoned (seen.count == lock_count Exclusive) owned in
+          let both = neither seen.is_poisoned (may_refuse needs seen.count) owned in
           elim (cases_Bool seen.is_flagged) [
             | inl flagged ↦ rw (owned, flagged) (record {
               events = [];
               last = state;
               run = refl;
               names = refl;
-              calm = λ semaphore. refl;
               stands = subst (λ (p : ℕ → Place). Invariant needs places row p state) (sym (updated-same standing me (standing me) refl)) s;
             })
             | inr clear ↦ rw owned
@@ -89,9 +87,8 @@ poisoning-outcome needs places row standing state me s none nothing lock tells =
                   last = state;
                   run = refl;
                   names = refl;
-                  calm = λ semaphore. refl;
                   stands = moved needs places row standing state me s (record (standing me) { stage = PoisonExchange seen }) (λ out. refl) refl
-                      (count-small (row 0)) (lock, tells, tail-small (row 0), same_number seen.count (lock_count Exclusive) both.1, clear, both.0)
+                      (count-small (row 0)) (tells, tail-small (row 0), both.1, clear, both.0)
                       (λ gives. absurd (cc)) tt nothing (sym none) (λ is. absurd (not-holder needs places row standing state me s none is));
                 }))
           ]
@@ -105,13 +102,13 @@ step-PoisonLoad needs lawful wide places row standing state me room s at =
     let alone : IsLocallyTrue needs (standing me).registration (standing me).back PoisonLoad =
     subst (λ (stage : Stage). IsLocallyTrue needs (standing me).registration (standing me).back stage) at (s.stages.alone me) in
     let out = poisoning-outcome needs places row standing state me s (ap is_holder at)
-    (subst (λ (stage : Stage). IsShowing (s.owed me) (s.answer_value me) stage) at (s.stages.showing me)) alone.0 alone.1 in
+    (subst (λ (stage : Stage). IsShowing (s.owed me) (s.answer_value me) stage) at (s.stages.showing me)) alone in
     only-looked needs places row standing state me PoisonLoad out refl refl refl refl
 
--- the object once a lock is poisoned
-abbrev poisoned_after : AbstractState → ℕ → AbstractState
-poisoned_after state me = record state {
-  count = 0;
+-- the object once a lock is poisoned, or a semaphore shut
+abbrev poisoned_after : Needs → AbstractState → ℕ → AbstractState
+poisoned_after needs state me = record state {
+  count = kept needs state.count;
   poisoned = true;
   line = [];
   due = answered_with 2 state.line state.due;
@@ -119,22 +116,25 @@ poisoned_after state me = record state {
 }
 
 -- poison changes how a place is held, and not whether it is
-held-poisoned : (state : AbstractState) (me place : ℕ) → held_by place state ≤ 1 → held_by place (poisoned_after state me) ≡ held_by place state
-held-poisoned state me place once =
+held-poisoned : (needs : Needs) (state : AbstractState) (me place : ℕ) → held_by place state ≤ 1 → held_by place (poisoned_after needs state me) ≡ held_by place state
+held-poisoned needs state me place once =
     elim (cases_Bool (is_in place state.line)) [
       | inl some ↦ rw some (omega (arith, once, in-waits place state.line some))
       | inr none ↦ rw none (omega (arith, in-no place state.line none))
     ]
 
--- A lock is poisoned by a write to the main word: the waiters' answers are owed by the place that poisoned, which goes on at a stage
-poisoned-stands : (needs : Needs) (places : ℕ) (row : ℕ → ℕ) (standing : ℕ → Place) (state : AbstractState) (me : ℕ) (s : Invariant needs places row standing state)
-    (stage : Stage) → joins_line stage ≡ false → s.holder == 0 ≡ true → s.owed me ≡ [] → needs.is_lock ≡ true
+-- A lock is poisoned, or a semaphore shut, by a write to the main word: the waiters' answers are owed by the place that did so, which goes on at a stage
+poisoned-stands : (needs : Needs) → needs.top < 2 ^ count_bits
+    → (places : ℕ) (row : ℕ → ℕ) (standing : ℕ → Place) (state : AbstractState) (me : ℕ) (s : Invariant needs places row standing state)
+    (stage : Stage) (seen : Word) → seen.count ≡ state.count → joins_line stage ≡ false → s.holder == 0 ≡ true → s.owed me ≡ []
     → IsRanged needs stage → IsLocallyTrue needs (standing me).registration (standing me).back stage
     → IsOwn (line_of row me) stage → IsShowing state.line 2 stage → is_holder stage ≡ false
-    → Invariant needs places (updated row 0 (word_number count_bits poisoned_word)) (updated standing me (record (standing me) { stage = stage }))
-    (poisoned_after state me)
-poisoned-stands needs places row standing state me s stage never unheld none lock ranged alone own showing holder =
-    let number : ℕ = word_number count_bits poisoned_word in
+    → Invariant needs places (updated row 0 (word_number count_bits (refusing_word needs seen))) (updated standing me (record (standing me) { stage = stage }))
+    (poisoned_after needs state me)
+poisoned-stands needs wide places row standing state me s stage seen counts never unheld none ranged alone own showing holder =
+    let number : ℕ = word_number count_bits (refusing_word needs seen) in
+    let less : kept needs state.count ≤ state.count = kept-small needs state.count in
+    let keeps : kept needs seen.count ≡ kept needs state.count = ap (kept needs) counts in
     let place : Place = record (standing me) { stage = stage } in
     let zero : s.holder ≡ 0 = same_number s.holder 0 unheld in
     let once = held-once places standing state s.seats in
@@ -142,7 +142,7 @@ poisoned-stands needs places row standing state me s stage never unheld none loc
     let linked = linked-all (line_of row) state.line s.cut s.uncut s.line (s.free unheld) in
     let debts = debts-granted (line_of row) state s.owed s.answer_value me 2 state.line [] s.debts (omega arith) (sym (append-nil state.line))
     once none linked in
-    let stages = stages-next needs (line_of row) (line_of row) standing state.count 0 state.line [] s.cut []
+    let stages = stages-next needs (line_of row) (line_of row) standing state.count (kept needs state.count) state.line [] s.cut []
     s.holder 0 s.owed (updated s.owed me state.line) s.answer_value (updated s.answer_value me 2) me place s.stages
     ranged alone (λ gives. refl) own (rw (number_same me) showing) (holder ∙ sym (nobody me)) (λ is. absurd (omega (arith, is)))
     (λ other differs out. refl)
@@ -158,11 +158,12 @@ poisoned-stands needs places row standing state me s stage never unheld none loc
       owed = updated s.owed me state.line;
       answer_value = updated s.answer_value me 2;
       free = λ free. refl;
-      main = main-now needs (poisoned_after state me) 0 poisoned_word (omega arith) (omega arith) refl refl refl refl
-          (λ poisoned. (refl, refl, lock)) (omega arith) (λ free. s.main.closed unheld) (λ closed. tt);
+      main = main-now needs (poisoned_after needs state me) 0 (refusing_word needs seen) (omega (arith, keeps, less, s.main.bounded, wide)) (omega arith)
+          keeps refl refl refl (λ poisoned. (kept-twice needs state.count, refl)) (omega (arith, less, s.main.bounded))
+          (λ free. s.main.closed unheld) (λ closed. tt);
       line = record { parts = refl; granted = tt; stays = tt; some = λ gone. refl };
       seats = record {
-        held = λ other. held-poisoned state me other (once other) ∙ seats.held other;
+        held = λ other. held-poisoned needs state me other (once other) ∙ seats.held other;
         within = seats.within;
         beyond = seats.beyond;
       };
@@ -171,7 +172,7 @@ poisoned-stands needs places row standing state me s stage never unheld none loc
       stages = rw (line-main row number) stages;
     }
 
--- A poisoner that saw a lock of one owner poisons it, and shows that to all waiters; or decides by the word that it found
+-- A poisoner that saw a lock of one owner poisons it, and a place that shuts a semaphore does so, and shows that to all waiters; or decides by the word that it found
 pub step-PoisonExchange : (needs : Needs) → AreNeeds needs → needs.top < 2 ^ count_bits → (places : ℕ) (row : ℕ → ℕ) (standing : ℕ → Place) (state : AbstractState) (me : ℕ)
     → places < 65536 → (s : Invariant needs places row standing state)
     → (seen : Word) → (standing me).stage ≡ PoisonExchange seen → StepRefines needs places row standing state me (PoisonExchange seen)
@@ -183,39 +184,39 @@ step-PoisonExchange needs lawful wide places row standing state me room s seen a
     let nothing : s.owed me ≡ [] = subst (λ (stage : Stage). IsShowing (s.owed me) (s.answer_value me) stage) at (s.stages.showing me) in
     elim (cases_Bool (row 0 == word_number count_bits seen)) [
       | inl same ↦
-          let is : main_of row ≡ seen = main-found (row 0) seen ranged alone.2 same in
+          let is : main_of row ≡ seen = main-found (row 0) seen ranged alone.1 same in
           let tail : seen.tail ≡ newest 0 state.line = ap (λ (w : Word). w.tail) (sym is) ∙ s.main.tail in
           let unheld : s.holder == 0 ≡ true =
-          not-clear (s.holder == 0) (sym s.main.flag ∙ ap (λ (w : Word). w.is_flagged) is ∙ alone.4) in
-          let calm : state.poisoned ≡ false = sym s.main.poison ∙ ap (λ (w : Word). w.is_poisoned) is ∙ alone.5 in
-          let owned : state.count ≡ lock_count Exclusive = sym s.main.count ∙ ap (λ (w : Word). w.count) is ∙ alone.3 in
-          let returning = returning-any (standing me).registration (standing me).back alone.1 in
+          not-clear (s.holder == 0) (sym s.main.flag ∙ ap (λ (w : Word). w.is_flagged) is ∙ alone.3) in
+          let calm : state.poisoned ≡ false = sym s.main.poison ∙ ap (λ (w : Word). w.is_poisoned) is ∙ alone.4 in
+          let counts : seen.count ≡ state.count = ap (λ (w : Word). w.count) (sym is) ∙ s.main.count in
+          let owned : may_refuse needs state.count ≡ true = ap (may_refuse needs) (sym counts) ∙ alone.2 in
+          let returning = returning-any (standing me).registration (standing me).back alone.0 in
           record {
             events = Poisoned ∷ [];
-            last = poisoned_after state me;
-            run = ((s.main.closed unheld, (calm, owned, alone.0)), refl);
+            last = poisoned_after needs state me;
+            run = ((s.main.closed unheld, (calm, owned)), refl);
             names = rw same refl;
-            calm = λ semaphore. let wrong : true ≡ false = sym alone.0 ∙ semaphore in absurd (cc);
             inside = omega arith;
             stands =
                 elim (cases_Bool (seen.tail == 0)) [
                   | inl alone_there ↦
                       rw (same, alone_there)
-                      (subst (λ (p : Place). Invariant needs places (updated row 0 (word_number count_bits poisoned_word)) (updated standing me p)
-                      (poisoned_after state me))
+                      (subst (λ (p : Place). Invariant needs places (updated row 0 (word_number count_bits (refusing_word needs seen))) (updated standing me p)
+                      (poisoned_after needs state me))
                       (sym (ended (standing me) (standing me).back))
-                      (poisoned-stands needs places row standing state me s (end_stage (standing me).back) (ended-joins (standing me).back) unheld nothing alone.0
+                      (poisoned-stands needs wide places row standing state me s (end_stage (standing me).back) seen counts (ended-joins (standing me).back) unheld nothing
                       (ended-ranged needs (standing me).back) (ended-alone needs (standing me).registration (standing me).back returning)
                       (ended-own (line_of row me) (standing me).back)
                       (ended-showing state.line 2 (standing me).back (front-none state.line seen.tail tail alone_there)) (ended-holder (standing me).back)))
                   | inr others ↦
                       rw (same, others)
-                      (poisoned-stands needs places row standing state me s (ShowLoad seen.tail 2 Ends) refl unheld nothing alone.0
+                      (poisoned-stands needs wide places row standing state me s (ShowLoad seen.tail 2 Ends) seen counts refl unheld nothing
                       tt returning tt (sym tail, front-some state.line seen.tail tail others, refl) refl)
                 ];
           }
       | inr differs ↦
-          let out = poisoning-outcome needs places row standing state me s none nothing alone.0 alone.1 in
+          let out = poisoning-outcome needs places row standing state me s none nothing alone.0 in
           only-looked needs places row standing state me (PoisonExchange seen) out refl (rw differs refl) (rw differs refl) (rw differs refl)
     ]
 
@@ -233,27 +234,32 @@ bit-kept number =
 number-kept : (number : ℕ) → number < 2 ^ (count_bits + 18) → word_number count_bits (word_of count_bits number) ≡ number
 number-kept number whole = omega (arith, whole, bit-kept (number / 2 ^ count_bits), bit-kept (number / 2 ^ count_bits / 2))
 
--- the main word of a poisoned lock is that of poison alone
+-- the main word of a poisoned lock is that of poison alone, and that of a shut semaphore has its count beside it
 pub poisoned-number : (needs : Needs) (places : ℕ) (row : ℕ → ℕ) (standing : ℕ → Place) (state : AbstractState) (s : Invariant needs places row standing state)
-    → state.poisoned ≡ true → row 0 ≡ word_number count_bits poisoned_word
+    → state.poisoned ≡ true → row 0 ≡ word_number count_bits (refusing_word needs (main_of row))
 poisoned-number needs places row standing state s poisoned =
     let barren = s.main.barren poisoned in
     let unheld : s.holder == 0 ≡ true = nobody-holds needs places row standing state s (ap is_empty barren.1) in
     let word : Word = main_of row in
-    let count : word.count ≡ 0 = s.main.count ∙ barren.0 in
+    let count : word.count ≡ kept needs word.count = s.main.count ∙ barren.0 ∙ ap (kept needs) (sym s.main.count) in
     let flag : word.is_flagged ≡ false = s.main.flag ∙ ap not unheld in
     let poison : word.is_poisoned ≡ true = s.main.poison ∙ poisoned in
     let tail : word.tail ≡ 0 = s.main.tail ∙ ap (newest 0) barren.1 in
-    let is : word ≡ poisoned_word = λ i. record { count = count i; is_flagged = flag i; is_poisoned = poison i; tail = tail i } in
+    let is : word ≡ refusing_word needs word = λ i. record { count = count i; is_flagged = flag i; is_poisoned = poison i; tail = tail i } in
     sym (number-kept (row 0) s.main.whole) ∙ ap (word_number count_bits) is
+
+-- the word that a lock is poisoned by
+lock-word : (needs : Needs) (seen : Word) → needs.is_lock ≡ true → refusing_word needs seen ≡ poisoned_word
+lock-word needs seen lock = rw lock refl
 
 -- what isn't cleared isn't poisoned
 never-poisoned : (needs : Needs) (places : ℕ) (row : ℕ → ℕ) (standing : ℕ → Place) (state : AbstractState) (s : Invariant needs places row standing state)
-    → row 0 == word_number count_bits poisoned_word ≡ false → state.poisoned ≡ false
-never-poisoned needs places row standing state s differs =
+    → needs.is_lock ≡ true → row 0 == word_number count_bits poisoned_word ≡ false → state.poisoned ≡ false
+never-poisoned needs places row standing state s lock differs =
     elim (cases_Bool state.poisoned) [
       | inl poisoned ↦
-          let is : row 0 ≡ word_number count_bits poisoned_word = poisoned-number needs places row standing state s poisoned in
+          let is : row 0 ≡ word_number count_bits poisoned_word =
+          poisoned-number needs places row standing state s poisoned ∙ ap (word_number count_bits) (lock-word needs (main_of row) lock) in
           let same : row 0 == word_number count_bits poisoned_word ≡ true = ap (λ (n : ℕ). n == word_number count_bits poisoned_word) is in
           let wrong : true ≡ false = sym same ∙ differs in
           absurd (cc)
@@ -262,11 +268,12 @@ never-poisoned needs places row standing state s differs =
 
 -- Poison is cleared by a write to the main word, where nobody waits
 cleared-stands : (needs : Needs) (places : ℕ) (row : ℕ → ℕ) (standing : ℕ → Place) (state : AbstractState) (me : ℕ) (s : Invariant needs places row standing state)
-    → is_holder (standing me).stage ≡ false → s.owed me ≡ [] → state.poisoned ≡ true
+    → is_holder (standing me).stage ≡ false → s.owed me ≡ [] → needs.is_lock ≡ true → state.poisoned ≡ true
     → Invariant needs places (updated row 0 (word_number count_bits (settled_word 0 0))) (updated standing me (record (standing me) { stage = Quiet }))
     (record state { poisoned = false })
-cleared-stands needs places row standing state me s none nothing poisoned =
+cleared-stands needs places row standing state me s none nothing lock poisoned =
     let barren = s.main.barren poisoned in
+    let none_held : state.count ≡ 0 = barren.0 ∙ rw lock refl in
     let unheld : s.holder == 0 ≡ true = nobody-holds needs places row standing state s (ap is_empty barren.1) in
     let number : ℕ = word_number count_bits (settled_word 0 0) in
     let place : Place = record (standing me) { stage = Quiet } in
@@ -284,7 +291,7 @@ cleared-stands needs places row standing state me s none nothing poisoned =
       answer_value = s.answer_value;
       free = s.free;
       main = main-now needs (record state { poisoned = false }) s.holder (settled_word 0 0) (omega arith) (omega arith)
-          (sym barren.0) (sym (ap (newest 0) barren.1)) (sym (ap not unheld)) refl (λ now. absurd (cc)) s.main.bounded s.main.closed s.main.settled;
+          (sym none_held) (sym (ap (newest 0) barren.1)) (sym (ap not unheld)) refl (λ now. absurd (cc)) s.main.bounded s.main.closed s.main.settled;
       line = subst (λ (w : ℕ → LineWord). IsLine w state.line s.cut s.uncut) (sym (line-main row number)) s.line;
       seats = record { held = seats.held; within = seats.within; beyond = seats.beyond };
       answers = answers-main places row number state.shown s.answers;
@@ -298,6 +305,7 @@ pub step-Clear : (needs : Needs) → AreNeeds needs → needs.top < 2 ^ count_bi
     → places < 65536 → (s : Invariant needs places row standing state)
     → (standing me).stage ≡ Clear → StepRefines needs places row standing state me Clear
 step-Clear needs lawful wide places row standing state me room s at =
+    let lock : needs.is_lock ≡ true = subst (λ (stage : Stage). IsLocallyTrue needs (standing me).registration (standing me).back stage) at (s.stages.alone me) in
     let none : is_holder (standing me).stage ≡ false = ap is_holder at in
     let nothing : s.owed me ≡ [] = subst (λ (stage : Stage). IsShowing (s.owed me) (s.answer_value me) stage) at (s.stages.showing me) in
     elim (cases_Bool (row 0 == word_number count_bits poisoned_word)) [
@@ -307,18 +315,16 @@ step-Clear needs lawful wide places row standing state me room s at =
           record {
             events = Cleared ∷ [];
             last = record state { poisoned = false };
-            run = (poisoned, refl);
+            run = ((poisoned, lock), refl);
             names = rw same refl;
-            calm = λ semaphore. refl;
             inside = omega arith;
-            stands = rw same (cleared-stands needs places row standing state me s none nothing poisoned);
+            stands = rw same (cleared-stands needs places row standing state me s none nothing lock poisoned);
           }
       | inr differs ↦ record {
         events = NotCleared ∷ [];
         last = state;
-        run = (never-poisoned needs places row standing state s differs, refl);
+        run = (never-poisoned needs places row standing state s lock differs, refl);
         names = rw differs refl;
-        calm = λ semaphore. refl;
         inside = omega arith;
         stands = rw differs (loaded needs places row (updated standing me (record (standing me) { stage = Quiet })) state 0
             (moved needs places row standing state me s (record (standing me) { stage = Quiet }) (λ out. refl) refl

@@ -96,7 +96,6 @@ step-ShowStore needs lawful wide places row standing state me room s current nex
       last = last;
       run = ((ap is_some due, (s.debts.due_to me asker.0 mine).0), refl);
       names = refl;
-      calm = λ semaphore. refl;
       inside = omega (arith, showing.3, due-inside needs places row standing state s me asker.0 mine);
       stands =
           elim (cases_Bool (next == 0)) [
@@ -256,7 +255,6 @@ takes needs places row standing state me here s slot none nothing Tries (Some va
   last = record state { shown = with_answer me None state.shown };
   run = (is, refl);
   names = refl;
-  calm = λ semaphore. refl;
   stands = taken needs places row standing state me value here s slot none is (record (standing me) { registration = Idle; stage = Quiet })
       refl tt tt refl (λ word. tt) nothing refl;
 }
@@ -265,7 +263,6 @@ takes needs places row standing state me here s slot none nothing Awaits (Some v
   last = record state { shown = with_answer me None state.shown };
   run = (is, refl);
   names = refl;
-  calm = λ semaphore. refl;
   stands = taken needs places row standing state me value here s slot none is (record (standing me) { registration = Idle; stage = Quiet })
       refl tt tt refl (λ word. tt) nothing refl;
 }
@@ -274,7 +271,6 @@ takes needs places row standing state me here s slot none nothing (Gives request
   last = record state { shown = with_answer me None state.shown };
   run = (is, refl);
   names = refl;
-  calm = λ semaphore. refl;
   stands =
       let drops : Place = record (standing me) { registration = Idle; stage = ReleaseLoad (Requested request); back = EndsCall } in
       let quiet : Place = record (standing me) { registration = Idle; stage = Quiet } in
@@ -292,7 +288,6 @@ takes needs places row standing state me here s slot none nothing Tries None is 
     refl,
   );
   names = refl;
-  calm = λ semaphore. refl;
   stands =
       let quiet : Place = record (standing me) { stage = Quiet } in
       subst (λ (r : ℕ → ℕ). Invariant needs places r (updated standing me quiet) state) (sym (updated-same row (places + me + 1) 0 (sym number)))
@@ -304,7 +299,6 @@ takes needs places row standing state me here s slot none nothing Awaits None is
   last = state;
   run = refl;
   names = refl;
-  calm = λ semaphore. refl;
   stands = stays needs places row standing state me (places + me + 1) s number;
 }
 takes needs places row standing state me here s slot none nothing (Gives request) None is number = record {
@@ -312,7 +306,6 @@ takes needs places row standing state me here s slot none nothing (Gives request
   last = state;
   run = refl;
   names = refl;
-  calm = λ semaphore. refl;
   stands = stays needs places row standing state me (places + me + 1) s number;
 }
 
@@ -334,7 +327,6 @@ step-Take needs lawful wide places row standing state me room here s taking at =
       last = out.last;
       run = out.run;
       names = out.names ∙ ap (taken_events taking) (sym answer_is);
-      calm = out.calm;
       inside = omega (arith, here);
       stands = subst
           (λ (a : Option ℕ).

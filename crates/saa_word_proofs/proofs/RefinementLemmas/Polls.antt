@@ -1,13 +1,11 @@
 -- A step that is answered that it waits finds no answer or the flag set, and writes what stood there.
 use Rattle.std.proofs.Common.{◌≡◌, ℕ, ◌+◌, ◌%◌, ◌<◌, Bool, true, false, not, ◌&&◌, ◌||◌, if◌then◌else◌, ◌==◌, Option, Some, None, is_some, refl, sym, ap, subst, ◌∙◌, arith, inl, inr}
 use Rattle.std.proofs.lemmas.Bool.{cases_Bool}
-use Rattle.saa_core_spec.specs.Held.{Exclusive}
 use Rattle.saa_core_spec.specs.Object.{one_if}
 use Rattle.saa_core_spec.specs.Values.{granted_value}
-use Rattle.saa_core_spec.proofs.Counts.{same_number}
 use Rattle.saa_core_words.specs.declared.word.Word.{Word}
 use Rattle.saa_core_words.specs.declared.line_word.LineWord.{LineWord}
-use Rattle.saa_core_words.specs.Words.{count_bits, word_number, word_of, line_word_of, answer_number, answer_of, lock_count}
+use Rattle.saa_core_words.specs.Words.{count_bits, word_number, word_of, line_word_of, answer_number, answer_of}
 use Rattle.saa_core_words.proofs.Words.{answer-read}
 use Rattle.saa_word_steps.specs.declared.place.Place.{Place}
 use Rattle.saa_word_steps.specs.declared.place.Ask.{Ask}
@@ -24,13 +22,13 @@ use Rattle.saa_word_steps.specs.declared.place.Registration.TheVariants.{Queued}
 use Rattle.saa_word_steps.specs.declared.operation.Operation.TheVariants.{Exchange}
 use Rattle.saa_word_steps.specs.declared.place.Next.{Next}
 use Rattle.saa_word_steps.specs.declared.place.Next.TheVariants.{Waits}
-use Rattle.saa_word_steps.specs.Needs.{Needs, fits_count}
+use Rattle.saa_word_steps.specs.Needs.{Needs, fits_count, forgets, may_refuse}
 use Rattle.saa_word_steps.specs.AbstractState.{AbstractState, is_in, held_by}
 use Rattle.saa_word_steps.specs.Steps.{left_from, word_at, operation_of, next_of, finished, granted, decided, gave_nothing, given_to, given, shown_all, dropped, looked_at, closing, taken_answer, flagging, poisoning, flagged_word}
-use Rattle.saa_word_steps.specs.Readings.{poisoned_word}
+use Rattle.saa_word_steps.specs.Readings.{refusing_word}
 use Rattle.saa_word_steps.proofs.AbstractRuns.{waits-none}
 use Rattle.saa_word_proofs.specs.Refinement.{IsLocallyTrue, Invariant}
-use Rattle.saa_word_proofs.specs.Rows.{IsOwnedAndFlagged, main_of}
+use Rattle.saa_word_proofs.specs.Rows.{IsRefusableAndFlagged, main_of}
 use Rattle.saa_word_proofs.specs.Registering.{is_slot}
 use Rattle.saa_word_proofs.specs.StepRefinement.{row_after}
 use Rattle.saa_word_proofs.specs.Blocking.{IsBlockedAt}
@@ -81,7 +79,7 @@ on-left place what seen (Some left) = refl
 
 on-given : (needs : Needs) (place : Place) (what : ReleaseAmount) (seen : Word) → GoesOn (given needs place what seen)
 on-given needs place what seen =
-    either seen.is_poisoned _ _ (on-nothing place place.back) (on-left place what seen (left_from needs seen.count what))
+    either (forgets needs seen.is_poisoned) _ _ (on-nothing place place.back) (on-left place what seen (left_from needs seen.count what))
 
 -- behind the last answer that is shown, and with an answer that is dropped
 on-shown : (place : Place) (afterwards : AfterShow) → GoesOn (shown_all place afterwards)
@@ -183,12 +181,12 @@ neither-of false false clear = absurd (cc)
 flag-stalls : (place : Place) (seen : Word) → flagging place seen ≡ Waits → seen.is_flagged ≡ true
 flag-stalls place seen waits = first-waits seen.is_flagged _ (either (seen.tail == 0) _ _ (on-finished place place.back) refl) waits
 
--- poison that waits finds one owner and the flag set
-poison-stalls : (place : Place) (seen : Word) → poisoning place seen ≡ Waits → IsOwnedAndFlagged seen
-poison-stalls place seen waits =
-    let owned = second-waits (seen.is_poisoned || not (seen.count == lock_count Exclusive)) _ _ refl waits in
-    let both = neither-of seen.is_poisoned (seen.count == lock_count Exclusive) owned.0 in
-    (same_number seen.count (lock_count Exclusive) both.1, both.0, first-waits seen.is_flagged _ refl owned.1)
+-- poison that waits finds one owner and the flag set, and a shut finds the flag set
+poison-stalls : (needs : Needs) (place : Place) (seen : Word) → poisoning needs place seen ≡ Waits → IsRefusableAndFlagged needs seen
+poison-stalls needs place seen waits =
+    let owned = second-waits (seen.is_poisoned || not (may_refuse needs seen.count)) _ _ refl waits in
+    let both = neither-of seen.is_poisoned (may_refuse needs seen.count) owned.0 in
+    (both.1, both.0, first-waits seen.is_flagged _ refl owned.1)
 
 -- an exchange that finds another number writes what stood there
 not-exchanged : (row : ℕ → ℕ) (old new : ℕ) → (row 0 == old) ≡ false → row_after row (Exchange 0 old new) ≡ row
@@ -237,7 +235,7 @@ takes-none needs places row standing state me s taking slot waits =
 pub only-stalls-anyone : (needs : Needs) (places : ℕ) (row : ℕ → ℕ) (standing : ℕ → Place) (state : AbstractState) (me : ℕ)
     → Invariant needs places row standing state → (stage : Stage) → (standing me).stage ≡ stage
     → next_of needs me (standing me) stage (row (word_at (operation_of needs places me stage))) ≡ Waits
-    → IsBlockedAt state me (main_of row) stage × (row_after row (operation_of needs places me stage) ≡ row)
+    → IsBlockedAt needs state me (main_of row) stage × (row_after row (operation_of needs places me stage) ≡ row)
 only-stalls-anyone needs places row standing state me s (Take Awaits) at waits =
     let slot : is_slot (standing me).registration ≡ true =
     subst (λ stage. IsLocallyTrue needs (standing me).registration (standing me).back stage) at (s.stages.alone me) in
@@ -254,10 +252,10 @@ only-stalls-anyone needs places row standing state me s (FlagExchange seen) at w
     let both = second-waits (row 0 == word_number count_bits seen) _ _ refl waits in
     (flag-stalls (standing me) (main_of row) both.1, not-exchanged row (word_number count_bits seen) (word_number count_bits (flagged_word seen)) both.0)
 only-stalls-anyone needs places row standing state me s PoisonLoad at waits =
-    (poison-stalls (standing me) (main_of row) waits, updated-same row 0 (row 0) refl)
+    (poison-stalls needs (standing me) (main_of row) waits, updated-same row 0 (row 0) refl)
 only-stalls-anyone needs places row standing state me s (PoisonExchange seen) at waits =
     let both = second-waits (row 0 == word_number count_bits seen) _ _ (either (seen.tail == 0) _ _ (on-finished (standing me) (standing me).back) refl) waits in
-    (poison-stalls (standing me) (main_of row) both.1, not-exchanged row (word_number count_bits seen) (word_number count_bits poisoned_word) both.0)
+    (poison-stalls needs (standing me) (main_of row) both.1, not-exchanged row (word_number count_bits seen) (word_number count_bits (refusing_word needs seen)) both.0)
 only-stalls-anyone needs places row standing state me s stage at waits =
     let goes = goes-on needs me (standing me) stage (row (word_at (operation_of needs places me stage))) refl in
     let wrong : false ≡ true = sym goes ∙ ap says_wait waits in
@@ -267,5 +265,5 @@ only-stalls-anyone needs places row standing state me s stage at waits =
 pub only-stalls : (needs : Needs) (places : ℕ) (row : ℕ → ℕ) (standing : ℕ → Place) (state : AbstractState) (me : ℕ) → me < places
     → Invariant needs places row standing state → (stage : Stage) → (standing me).stage ≡ stage
     → next_of needs me (standing me) stage (row (word_at (operation_of needs places me stage))) ≡ Waits
-    → IsBlockedAt state me (main_of row) stage × (row_after row (operation_of needs places me stage) ≡ row)
+    → IsBlockedAt needs state me (main_of row) stage × (row_after row (operation_of needs places me stage) ≡ row)
 only-stalls needs places row standing state me here s stage at waits = only-stalls-anyone needs places row standing state me s stage at waits

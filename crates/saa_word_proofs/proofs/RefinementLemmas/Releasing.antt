@@ -12,18 +12,18 @@ use Rattle.saa_word_steps.specs.declared.place.AfterWalk.{AfterWalk}
 use Rattle.saa_word_steps.specs.declared.place.AfterWalk.TheVariants.{Tells, Ends, Takes}
 use Rattle.saa_word_steps.specs.declared.place.Stage.{Stage}
 use Rattle.saa_word_steps.specs.declared.place.Stage.TheVariants.{Quiet, ReleaseLoad, ReleaseExchange, BackLoad}
-use Rattle.saa_word_steps.specs.Needs.{Needs, AreNeeds}
+use Rattle.saa_word_steps.specs.Needs.{Needs, AreNeeds, forgets}
 use Rattle.saa_word_steps.specs.AbstractState.{AbstractState, IsEnabled, after_event, is_empty, count_or, IsSettledAt}
 use Rattle.saa_word_steps.specs.Steps.{IsRanged, left_from, gave_nothing, given_to, released}
-use Rattle.saa_word_steps.proofs.Giving.{left-share, left-shrinks}
+use Rattle.saa_word_steps.proofs.Giving.{calm-loose, kept-shut, left-share, left-shrinks}
 use Rattle.saa_word_proofs.specs.Refinement.{joins_line, newest, is_holder, takes_back, gives_up, IsLocallyTrue, IsOwn, IsShowing, IsHolding, IsLine, AreDebts, AreStages, Invariant}
 use Rattle.saa_word_proofs.specs.Rows.{line_of, main_of, updated}
-use Rattle.saa_word_proofs.specs.StepRefinement.{StepRefines, gave, gave_not, left_events, never_poisons, place_after}
+use Rattle.saa_word_proofs.specs.StepRefinement.{StepRefines, gave, gave_not, left_events, place_after}
 use Rattle.saa_word_proofs.specs.History.{named}
 use Rattle.saa_word_proofs.proofs.RefinementLemmas.Lists.{newest-empty}
 use Rattle.saa_word_proofs.proofs.RefinementLemmas.Frames.{holding-frame, stages-next}
 use Rattle.saa_word_proofs.proofs.RefinementLemmas.Rows.{moved, main-found, line-main, seats-next, count-small, tail-small}
-use Rattle.saa_word_proofs.proofs.RefinementLemmas.Holders.{main-now, never-barren}
+use Rattle.saa_word_proofs.proofs.RefinementLemmas.Holders.{main-now}
 use Rattle.saa_word_proofs.proofs.RefinementLemmas.Outcomes.{Outcome, not-holder, answers-main, only-looked}
 use Rattle.saa_word_proofs.proofs.RefinementLemmas.Flagging.{link-some, not-true, apart-holders}
 use Rattle.saa_word_proofs.proofs.RefinementLemmas.Ending.{end_stage, ended, ended-ranged, ended-alone, ended-apart, ended-joins, ended-own, ended-showing, ended-holder, returning-any}
@@ -31,12 +31,12 @@ use Rattle.saa_word_proofs.proofs.RefinementLemmas.Ending.{end_stage, ended, end
 -- What a place gives back, and whether it has it
 
 -- that it isn't held is enabled where it isn't, and changes nothing
-nothing-enabled : (needs : Needs) (state : AbstractState) (me : ℕ) (what : ReleaseAmount) → (state.poisoned ≡ false → left_from needs state.count what ≡ None)
+nothing-enabled : (needs : Needs) (state : AbstractState) (me : ℕ) (what : ReleaseAmount) → (forgets needs state.poisoned ≡ false → left_from needs state.count what ≡ None)
     → IsEnabled needs state me (gave_not what)
 nothing-enabled needs state me (Requested request) none = none
 nothing-enabled needs state me AllButAShare none =
     λ owned.
-    let nothing : left_from needs state.count AllButAShare ≡ None = none owned.0 in
+    let nothing : left_from needs state.count AllButAShare ≡ None = none (calm-loose needs state.poisoned owned.0) in
     let share : left_from needs state.count AllButAShare ≡ Some 1 = rw (owned.2, owned.1) refl in
     absurd (cc)
 
@@ -48,16 +48,17 @@ nothing-named : (what : ReleaseAmount) → named (gave_not what ∷ []) ≡ gave
 nothing-named (Requested request) = refl
 nothing-named AllButAShare = refl
 
-nothing-calm : (what : ReleaseAmount) → never_poisons (gave_not what ∷ []) ≡ true
-nothing-calm (Requested request) = refl
-nothing-calm AllButAShare = refl
+-- a lock that forgets nothing isn't poisoned
+lock-calm : (needs : Needs) (poisoned : Bool) → needs.is_lock ≡ true → forgets needs poisoned ≡ false → poisoned ≡ false
+lock-calm needs true lock loose = let wrong : true ≡ false = rw lock at loose in absurd (cc)
+lock-calm needs false lock loose = refl
 
 -- what is left is the count behind its event
-gave-enabled : (needs : Needs) (state : AbstractState) (me : ℕ) (what : ReleaseAmount) (left : ℕ) → state.poisoned ≡ false
+gave-enabled : (needs : Needs) (state : AbstractState) (me : ℕ) (what : ReleaseAmount) (left : ℕ) → forgets needs state.poisoned ≡ false
     → left_from needs state.count what ≡ Some left → IsEnabled needs state me (gave what)
-gave-enabled needs state me (Requested request) left calm is = (calm, (left, is))
-gave-enabled needs state me AllButAShare left calm is =
-    let share = left-share needs state.count left is in (calm, share.1.0, share.1.1)
+gave-enabled needs state me (Requested request) left loose is = (loose, (left, is))
+gave-enabled needs state me AllButAShare left loose is =
+    let share = left-share needs state.count left is in (lock-calm needs state.poisoned share.1.1 loose, share.1.0, share.1.1)
 
 gave-after : (needs : Needs) (state : AbstractState) (me : ℕ) (what : ReleaseAmount) (left : ℕ) → left_from needs state.count what ≡ Some left
     → after_event needs state me (gave what) ≡ record state { count = left; unclosed = not (is_empty state.line) || state.unclosed }
@@ -69,10 +70,6 @@ gave-after needs state me AllButAShare left is =
 gave-named : (what : ReleaseAmount) → named (gave what ∷ []) ≡ gave what ∷ []
 gave-named (Requested request) = refl
 gave-named AllButAShare = refl
-
-gave-calm : (what : ReleaseAmount) → never_poisons (gave what ∷ []) ≡ true
-gave-calm (Requested request) = refl
-gave-calm AllButAShare = refl
 
 -- a place that gave nothing back is in no call
 quiet-nothing : (place : Place) (back : AfterWalk) → place_after place (gave_nothing place back) ≡ record place { stage = Quiet }
@@ -90,7 +87,6 @@ nothing-outcome needs places row standing state me s none nothing what allowed =
   last = state;
   run = (allowed, nothing-after needs state me what);
   names = nothing-named what;
-  calm = λ semaphore. nothing-calm what;
   stands = subst (λ (p : Place). Invariant needs places row (updated standing me p) state) (sym (quiet-nothing (standing me) (standing me).back))
       (moved needs places row standing state me s (record (standing me) { stage = Quiet }) (λ out. refl) refl
       tt tt (λ gives. absurd (cc)) tt nothing (sym none) (λ it. absurd (not-holder needs places row standing state me s none it)));
@@ -100,13 +96,13 @@ nothing-outcome needs places row standing state me s none nothing what allowed =
 given-outcome : (needs : Needs) (places : ℕ) (row : ℕ → ℕ) (standing : ℕ → Place) (state : AbstractState) (me : ℕ)
     → (s : Invariant needs places row standing state) → is_holder (standing me).stage ≡ false → s.owed me ≡ []
     → takes_back (standing me).back ≡ false → (what : ReleaseAmount) (poisoned : Bool) (left : Option ℕ)
-    → (main_of row).is_poisoned ≡ poisoned → left_from needs (main_of row).count what ≡ left
+    → forgets needs (main_of row).is_poisoned ≡ poisoned → left_from needs (main_of row).count what ≡ left
     → Outcome needs places row standing state me
     (if poisoned then gave_nothing (standing me) (standing me).back else given_to (standing me) what (main_of row) left)
     (if poisoned then gave_not what ∷ [] else left_events what left)
 given-outcome needs places row standing state me s none nothing ends what true left mark is =
     nothing-outcome needs places row standing state me s none nothing what
-    (nothing-enabled needs state me what (λ calm. let wrong : true ≡ false = sym mark ∙ s.main.poison ∙ calm in absurd (cc)))
+    (nothing-enabled needs state me what (λ loose. let wrong : true ≡ false = sym mark ∙ ap (forgets needs) s.main.poison ∙ loose in absurd (cc)))
 given-outcome needs places row standing state me s none nothing ends what false None mark is =
     nothing-outcome needs places row standing state me s none nothing what
     (nothing-enabled needs state me what (λ calm. ap (λ (n : ℕ). left_from needs n what) (sym s.main.count) ∙ is))
@@ -115,7 +111,6 @@ given-outcome needs places row standing state me s none nothing ends what false 
   last = state;
   run = refl;
   names = refl;
-  calm = λ semaphore. refl;
   stands = moved needs places row standing state me s (record (standing me) { stage = ReleaseExchange what (main_of row) }) (λ out. refl) refl
       (count-small (row 0)) (tail-small (row 0), (left, is), mark, ends) (λ gives. absurd (cc)) tt nothing (sym none)
       (λ it. absurd (not-holder needs places row standing state me s none it));
@@ -130,7 +125,7 @@ step-ReleaseLoad needs lawful wide places row standing state me room s what at =
     subst (λ stage. IsLocallyTrue needs (standing me).registration (standing me).back stage) at (s.stages.alone me) in
     let out = given-outcome needs places row standing state me s (ap is_holder at)
     (subst (λ stage. IsShowing (s.owed me) (s.answer_value me) stage) at (s.stages.showing me)) ends
-    what (main_of row).is_poisoned (left_from needs (main_of row).count what) refl refl in
+    what (forgets needs (main_of row).is_poisoned) (left_from needs (main_of row).count what) refl refl in
     only-looked needs places row standing state me (ReleaseLoad what) out refl refl refl refl
 
 -- a line that isn't opened is empty
@@ -141,7 +136,7 @@ unopened (asker ∷ rest) other closed = absurd (cc)
 -- Something is given back: the count falls; which place holds the flag afterwards, and what this place does then, is said by the premises
 given-back : (needs : Needs) → AreNeeds needs → needs.top < 2 ^ count_bits → (places : ℕ) (row : ℕ → ℕ) (standing : ℕ → Place) (state : AbstractState) (me : ℕ)
     → (s : Invariant needs places row standing state)
-    → (what : ReleaseAmount) (left : ℕ) (seen : Word) → seen.tail < 65536 → seen.is_poisoned ≡ false → main_of row ≡ seen → left_from needs seen.count what ≡ Some left
+    → (what : ReleaseAmount) (left : ℕ) (seen : Word) → seen.tail < 65536 → forgets needs seen.is_poisoned ≡ false → main_of row ≡ seen → left_from needs seen.count what ≡ Some left
     → (stage : Stage) (holder : ℕ) → joins_line stage ≡ false
     → IsRanged needs stage → IsLocallyTrue needs (standing me).registration (standing me).back stage → gives_up (standing me).back stage ≡ false
     → ((word : LineWord) → IsOwn word stage) → IsShowing (s.owed me) (s.answer_value me) stage
@@ -152,11 +147,11 @@ given-back : (needs : Needs) → AreNeeds needs → needs.top < 2 ^ count_bits �
     → ((holder == 0) ≡ true → (is_empty state.line ≡ true) × (s.holder == 0 ≡ true))
     → Invariant needs places (updated row 0 (word_number count_bits (released needs seen what))) (updated standing me (record (standing me) { stage = stage }))
     (record state { count = left; unclosed = not (is_empty state.line) || state.unclosed })
-given-back needs lawful wide places row standing state me s what left seen tail_small clean is left_is stage holder never ranged alone stays own showing
+given-back needs lawful wide places row standing state me s what left seen tail_small loose is left_is stage holder never ranged alone stays own showing
     one holding ones flag nobody =
     let tail : seen.tail ≡ newest 0 state.line = ap (λ (w : Word). w.tail) (sym is) ∙ s.main.tail in
     let count : seen.count ≡ state.count = ap (λ (w : Word). w.count) (sym is) ∙ s.main.count in
-    let calm : state.poisoned ≡ false = sym s.main.poison ∙ ap (λ (w : Word). w.is_poisoned) is ∙ clean in
+    let poison : seen.is_poisoned ≡ state.poisoned = ap (λ (w : Word). w.is_poisoned) (sym is) ∙ s.main.poison in
     let less : left ≤ seen.count = left-shrinks needs lawful seen.count what left left_is in
     let word : Word = released needs seen what in
     let word_count : word.count ≡ left = rw left_is refl in
@@ -171,7 +166,8 @@ given-back needs lawful wide places row standing state me s what left seen tail_
       answer_value = s.answer_value;
       free = λ free. s.free (nobody free).1;
       main = main-now needs after holder word
-          (omega (arith, word_count, less, count, s.main.bounded, wide)) tail_small word_count tail flag (sym calm) (never-barren needs after calm)
+          (omega (arith, word_count, less, count, s.main.bounded, wide)) tail_small word_count tail flag poison
+          (λ poisoned. (kept-shut needs left state.poisoned (ap (forgets needs) (sym poison) ∙ loose) poisoned, (s.main.barren poisoned).1))
           (omega (arith, less, count, s.main.bounded))
           (λ free. rw (nobody free).0 (s.main.closed (nobody free).1))
           (λ closed. subst (λ (l : List (ℕ × ℕ)). IsSettledAt needs left l) (sym (unopened state.line state.unclosed closed)) tt);
@@ -230,7 +226,7 @@ step-ReleaseExchange needs lawful wide places row standing state me room s what 
           let tail : seen.tail ≡ newest 0 state.line = ap (λ (w : Word). w.tail) (sym is) ∙ s.main.tail in
           let empty : seen.tail == 0 ≡ is_empty state.line = ap (λ (n : ℕ). n == 0) tail ∙ newest-empty state.line in
           let flagged : seen.is_flagged ≡ not (s.holder == 0) = ap (λ (w : Word). w.is_flagged) (sym is) ∙ s.main.flag in
-          let calm : state.poisoned ≡ false = sym s.main.poison ∙ ap (λ (w : Word). w.is_poisoned) is ∙ alone.2 in
+          let calm : forgets needs state.poisoned ≡ false = ap (forgets needs) (sym s.main.poison ∙ ap (λ (w : Word). w.is_poisoned) is) ∙ alone.2 in
           let left_now : left_from needs state.count what ≡ Some left =
           ap (λ (n : ℕ). left_from needs n what) (sym s.main.count ∙ ap (λ (w : Word). w.count) is) ∙ alone.1.1 in
           let word : Word = released needs seen what in
@@ -247,7 +243,6 @@ step-ReleaseExchange needs lawful wide places row standing state me room s what 
                   last = after;
                   run = (gave-enabled needs state me what left calm left_now, gave-after needs state me what left left_now);
                   names = rw same (gave-named what);
-                  calm = λ semaphore. gave-calm what;
                   inside = omega arith;
                   stands = rw (same, takes) (given-back needs lawful wide places row standing state me s what left seen alone.0 alone.2 is alone.1.1
                       (BackLoad word word.tail 0) (me + 1) refl (omega (arith, word_count, less, ranged)) returning alone.3 (λ word. tt) nothing
@@ -274,7 +269,6 @@ step-ReleaseExchange needs lawful wide places row standing state me room s what 
                   last = after;
                   run = (gave-enabled needs state me what left calm left_now, gave-after needs state me what left left_now);
                   names = rw same (gave-named what);
-                  calm = λ semaphore. gave-calm what;
                   inside = omega arith;
                   stands = rw (same, ends, ended (standing me) back)
                       (given-back needs lawful wide places row standing state me s what left seen alone.0 alone.2 is alone.1.1
@@ -288,6 +282,6 @@ step-ReleaseExchange needs lawful wide places row standing state me room s what 
           ]
       | inr differs ↦
           let out = given-outcome needs places row standing state me s none nothing alone.3
-          what (main_of row).is_poisoned (left_from needs (main_of row).count what) refl refl in
+          what (forgets needs (main_of row).is_poisoned) (left_from needs (main_of row).count what) refl refl in
           only-looked needs places row standing state me (ReleaseExchange what seen) out refl (rw differs refl) (rw differs refl) (rw differs refl)
     ]

@@ -98,7 +98,6 @@ step-ShowLoad needs lawful wide places row standing state me room s current valu
       last = state;
       run = refl;
       names = refl;
-      calm = λ semaphore. refl;
       inside = omega (arith, link, due-inside needs places row standing state s me split.last.0 (in-some split.last.0 (s.owed me) there));
       stands = loaded needs places row (updated standing me (record (standing me) { stage = ShowStore current next value afterwards })) state current
           (moved needs places row standing state me s (record (standing me) { stage = ShowStore current next value afterwards }) (λ out. refl) refl

@@ -6,7 +6,7 @@ use Rattle.saa_core_spec.specs.declared.lock.Mode.{Mode}
 use Rattle.saa_core_spec.specs.declared.lock.Mode.TheVariants.{Exclusive as ModeExclusive, Shared as ModeShared, WaitExclusive, WaitShared}
 use Rattle.saa_core_words.specs.Words.{count_bits}
 use Rattle.saa_word_steps.specs.declared.call.WordCall.{WordCall}
-use Rattle.saa_word_steps.specs.declared.call.WordCall.TheVariants.{Try, Register, Release, Available, TryLock, TryShare, RegisterMode, ReleaseLock, ReleaseShare, Downgrade, PoisonLock, ClearPoison, IsFree, IsLocked, IsShared, IsPoisoned, TryPoll, Poll, Cancel}
+use Rattle.saa_word_steps.specs.declared.call.WordCall.TheVariants.{Try, Register, Release, Available, Shut, IsShut, TryLock, TryShare, RegisterMode, ReleaseLock, ReleaseShare, Downgrade, PoisonLock, ClearPoison, IsFree, IsLocked, IsShared, IsPoisoned, TryPoll, Poll, Cancel}
 use Rattle.saa_word_steps.specs.declared.place.Place.{Place}
 use Rattle.saa_word_steps.specs.declared.place.ReleaseAmount.{ReleaseAmount}
 use Rattle.saa_word_steps.specs.declared.place.ReleaseAmount.TheVariants.{Requested, AllButAShare}
@@ -166,6 +166,10 @@ starts-anyone needs wide places row standing state me (Release count) free s qui
           ]
     ]
 starts-anyone needs wide places row standing state me Available free s quiet taken = reading-starts needs places row standing state me s quiet ReadsAvailable
+starts-anyone needs wide places row standing state me Shut free s quiet taken =
+    begun needs places row standing state me s (record (standing me) { stage = PoisonLoad; back = Tells }) (λ out. refl) quiet refl tt refl refl tt
+    (λ owed answer_value nothing. nothing) refl
+starts-anyone needs wide places row standing state me IsShut free s quiet taken = reading-starts needs places row standing state me s quiet ReadsPoisoned
 starts-anyone needs wide places row standing state me TryLock free s quiet taken = try-starts needs places row standing state me s quiet 0 (omega arith)
 starts-anyone needs wide places row standing state me TryShare free s quiet taken = try-starts needs places row standing state me s quiet 1 (omega arith)
 starts-anyone needs wide places row standing state me (RegisterMode mode) free s quiet taken =
@@ -174,10 +178,10 @@ starts-anyone needs wide places row standing state me ReleaseLock free s quiet t
 starts-anyone needs wide places row standing state me ReleaseShare free s quiet taken = release-starts needs places row standing state me s quiet (Requested 1)
 starts-anyone needs wide places row standing state me Downgrade free s quiet taken = release-starts needs places row standing state me s quiet AllButAShare
 starts-anyone needs wide places row standing state me PoisonLock free s quiet taken =
-    begun needs places row standing state me s (record (standing me) { stage = PoisonLoad; back = Tells }) (λ out. refl) quiet refl tt (taken, refl) refl tt
+    begun needs places row standing state me s (record (standing me) { stage = PoisonLoad; back = Tells }) (λ out. refl) quiet refl tt refl refl tt
     (λ owed answer_value nothing. nothing) refl
 starts-anyone needs wide places row standing state me ClearPoison free s quiet taken =
-    begun needs places row standing state me s (record (standing me) { stage = Clear }) (λ out. refl) quiet refl tt tt refl tt (λ owed answer_value nothing. nothing) refl
+    begun needs places row standing state me s (record (standing me) { stage = Clear }) (λ out. refl) quiet refl tt taken refl tt (λ owed answer_value nothing. nothing) refl
 starts-anyone needs wide places row standing state me IsFree free s quiet taken = reading-starts needs places row standing state me s quiet ReadsFree
 starts-anyone needs wide places row standing state me IsLocked free s quiet taken = reading-starts needs places row standing state me s quiet ReadsLocked
 starts-anyone needs wide places row standing state me IsShared free s quiet taken = reading-starts needs places row standing state me s quiet ReadsShared
@@ -224,18 +228,19 @@ register-begun needs place call request quiet is =
     ]
 
 -- A call that starts has named nothing
-pub call-begun : (needs : Needs) (place : Place) (call : WordCall) → place.stage ≡ Quiet → IsBegun needs call place.registration (started needs place call)
-call-begun needs place (Try count) quiet =
+pub call-begun : (needs : Needs) (place : Place) (call : WordCall) → place.stage ≡ Quiet → is_taken needs.is_lock call ≡ true
+    → IsBegun needs call place.registration (started needs place call)
+call-begun needs place (Try count) quiet taken =
     elim (cases_Bool (nat_lt needs.top count)) [
       | inl more ↦ rw more quiet
       | inr fits ↦ rw fits (refl, refl)
     ]
-call-begun needs place (Register count) quiet =
+call-begun needs place (Register count) quiet taken =
     elim (cases_Bool (nat_lt needs.top count)) [
       | inl more ↦ rw more quiet
       | inr fits ↦ rw fits (register-begun needs place (Register count) count quiet refl)
     ]
-call-begun needs place (Release count) quiet =
+call-begun needs place (Release count) quiet taken =
     elim (cases_Bool (nat_lt needs.top count)) [
       | inl more ↦ rw more quiet
       | inr fits ↦
@@ -244,19 +249,21 @@ call-begun needs place (Release count) quiet =
             | inr some ↦ rw (fits, some) (refl, refl)
           ]
     ]
-call-begun needs place Available quiet = (refl, refl)
-call-begun needs place TryLock quiet = (refl, refl)
-call-begun needs place TryShare quiet = (refl, refl)
-call-begun needs place (RegisterMode mode) quiet = register-begun needs place (RegisterMode mode) (mode_number mode) quiet refl
-call-begun needs place ReleaseLock quiet = (refl, refl)
-call-begun needs place ReleaseShare quiet = (refl, refl)
-call-begun needs place Downgrade quiet = (refl, refl)
-call-begun needs place PoisonLock quiet = (refl, refl, refl)
-call-begun needs place ClearPoison quiet = (refl, refl)
-call-begun needs place IsFree quiet = (refl, refl)
-call-begun needs place IsLocked quiet = (refl, refl)
-call-begun needs place IsShared quiet = (refl, refl)
-call-begun needs place IsPoisoned quiet = (refl, refl)
-call-begun needs place TryPoll quiet = poll-begun needs place Tries TryPoll place.registration quiet (λ request. (refl, refl))
-call-begun needs place Poll quiet = poll-begun needs place Awaits Poll place.registration quiet (λ request. (refl, refl))
-call-begun needs place Cancel quiet = cancel-begun needs place place.registration quiet
+call-begun needs place Available quiet taken = (refl, refl)
+call-begun needs place Shut quiet taken = (taken, refl, refl)
+call-begun needs place IsShut quiet taken = (refl, refl)
+call-begun needs place TryLock quiet taken = (refl, refl)
+call-begun needs place TryShare quiet taken = (refl, refl)
+call-begun needs place (RegisterMode mode) quiet taken = register-begun needs place (RegisterMode mode) (mode_number mode) quiet refl
+call-begun needs place ReleaseLock quiet taken = (refl, refl)
+call-begun needs place ReleaseShare quiet taken = (refl, refl)
+call-begun needs place Downgrade quiet taken = (refl, refl)
+call-begun needs place PoisonLock quiet taken = (taken, refl, refl)
+call-begun needs place ClearPoison quiet taken = (refl, refl)
+call-begun needs place IsFree quiet taken = (refl, refl)
+call-begun needs place IsLocked quiet taken = (refl, refl)
+call-begun needs place IsShared quiet taken = (refl, refl)
+call-begun needs place IsPoisoned quiet taken = (refl, refl)
+call-begun needs place TryPoll quiet taken = poll-begun needs place Tries TryPoll place.registration quiet (λ request. (refl, refl))
+call-begun needs place Poll quiet taken = poll-begun needs place Awaits Poll place.registration quiet (λ request. (refl, refl))
+call-begun needs place Cancel quiet taken = cancel-begun needs place place.registration quiet

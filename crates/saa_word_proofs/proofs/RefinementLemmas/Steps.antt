@@ -42,7 +42,6 @@ step-Quiet needs places row standing state me s = record {
   last = state;
   run = refl;
   names = refl;
-  calm = λ semaphore. refl;
   inside = omega arith;
   stands = loaded needs places row (updated standing me (standing me)) state 0
       (subst (λ (f : ℕ → Place). Invariant needs places row f state) (sym (updated-same standing me (standing me) refl)) s);

@@ -148,7 +148,6 @@ step-Unlink needs lawful wide places row standing state me room here s seen newe
       last = left state (before ++ after);
       run = left-run needs state me knows.2.1 before after parts (found-once places standing state me knows.2.1 before after s.seats parts);
       names = refl;
-      calm = λ semaphore. refl;
       inside = omega (arith, there.1, seat.0);
       stands =
           elim (cases_Bool (older == 0)) [
@@ -239,7 +238,6 @@ dropped-step needs places row standing state me here s seen older same mine rang
       run = subst (λ (l : List (ℕ × ℕ)). IsRun needs state (of_place me (Cancelled ∷ [])) (left state l)) (append-nil before)
           (left-run needs state me request before [] line once);
       names = rw same refl;
-      calm = λ semaphore. refl;
       inside = omega arith;
       stands =
           rw same
@@ -286,7 +284,6 @@ looks-again needs places row standing state me here s seen older at differs leav
       last = state;
       run = refl;
       names = rw differs refl;
-      calm = λ semaphore. refl;
       inside = omega arith;
       stands = rw differs (loaded needs places row (updated standing me next) state 0
           (moved needs places row standing state me s next (λ out. absurd (omega (arith, out, here))) refl (count-small (row 0)) leaves (λ gives. absurd (cc)) tt nothing (ap is_holder (sym at))

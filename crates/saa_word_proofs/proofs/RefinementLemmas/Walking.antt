@@ -36,7 +36,6 @@ step-BackLoad needs lawful wide places row standing state me room s seen current
       last = state;
       run = refl;
       names = refl;
-      calm = λ semaphore. refl;
       inside = omega (arith, there.1, seat.0);
       stands = loaded needs places row (updated standing me next) state current
           (moved needs places row standing state me s next (λ out. refl) refl
@@ -68,7 +67,6 @@ step-BackStore needs lawful wide places row standing state me room s seen curren
       last = state;
       run = refl;
       names = refl;
-      calm = λ semaphore. refl;
       inside = omega (arith, store.link, store.inside);
       stands =
           elim (cases_Bool (line.older == 0)) [
@@ -159,7 +157,6 @@ step-Forward needs lawful wide places row standing state me room s seen current 
       last = state;
       run = refl;
       names = refl;
-      calm = λ semaphore. refl;
       inside = omega (arith, there.1, seat.0);
       stands =
           loaded needs places row

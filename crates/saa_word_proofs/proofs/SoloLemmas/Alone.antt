@@ -22,7 +22,7 @@ use Rattle.saa_word_steps.specs.declared.place.Next.TheVariants.{Going, Done}
 use Rattle.saa_word_steps.specs.declared.call.Answer.{Answer}
 use Rattle.saa_word_steps.specs.declared.call.Answer.TheVariants.{Bool as Says, Taken, Unit as SaysNothing}
 use Rattle.saa_word_steps.specs.declared.call.WordCall.{WordCall}
-use Rattle.saa_word_steps.specs.declared.call.WordCall.TheVariants.{Try, Register, Release, Available, TryLock, TryShare, RegisterMode, ReleaseLock, ReleaseShare, Downgrade, PoisonLock, ClearPoison, IsFree, IsLocked, IsShared, IsPoisoned, TryPoll, Poll, Cancel}
+use Rattle.saa_word_steps.specs.declared.call.WordCall.TheVariants.{Try, Register, Release, Available, Shut, IsShut, TryLock, TryShare, RegisterMode, ReleaseLock, ReleaseShare, Downgrade, PoisonLock, ClearPoison, IsFree, IsLocked, IsShared, IsPoisoned, TryPoll, Poll, Cancel}
 use Rattle.saa_word_steps.specs.Needs.{AreNeeds, Needs, needs_of}
 use Rattle.saa_word_steps.specs.declared.event.Event.{Event}
 use Rattle.saa_word_steps.specs.Steps.{going, started, tried_as, registered_as, released_as, polled_as, cancelled_as}
@@ -93,7 +93,7 @@ begin-done rules places me is_sync call now s b steps answer last taken h place 
       stands = subst (λ (next : Next). Invariant needs places now.row (updated now.standing me (place_after was next)) b.state) is
           (starts needs b.small places now.row now.standing b.state me call b.here b.stands (b.quiet me) taken);
       quiet = quiet-put now.standing me place b.quiet
-          (subst (λ (next : Next). IsBegun needs call was.registration next) is (call-begun needs was call (b.quiet me)));
+          (subst (λ (next : Next). IsBegun needs call was.registration next) is (call-begun needs was call (b.quiet me) taken));
       mirrors = answers.mirrors;
       same = sym done.1 ∙ sym answers.same;
     } in
@@ -332,6 +332,13 @@ alone rules places me is_sync (Release count) now s b steps answer last taken h 
     ]
 alone rules places me is_sync Available now s b steps answer last taken h =
     begin-reads rules places me is_sync Available now s b steps answer last taken h ReadsAvailable refl (λ registered names answer a. a) refl
+alone rules places me is_sync Shut now s b steps answer last taken h =
+    begin-going rules places me is_sync Shut now s b steps answer last taken h (record (now.standing me) { stage = PoisonLoad; back = Tells }) refl
+    (λ e.
+    let one = e.arrived.answered in
+    end-poison rules places me is_sync Shut now.standing b.state s (now.standing me).registration answer last e taken refl one.0 one.1 one.2)
+alone rules places me is_sync IsShut now s b steps answer last taken h =
+    begin-reads rules places me is_sync IsShut now s b steps answer last taken h ReadsPoisoned refl (λ registered names answer a. a) refl
 alone rules places me is_sync TryLock now s b steps answer last taken h =
     begin-tries rules places me is_sync TryLock now s b steps answer last taken h 0 refl (λ registered names answer a. a) refl
 alone rules places me is_sync TryShare now s b steps answer last taken h =
@@ -354,7 +361,7 @@ alone rules places me is_sync PoisonLock now s b steps answer last taken h =
     begin-going rules places me is_sync PoisonLock now s b steps answer last taken h (record (now.standing me) { stage = PoisonLoad; back = Tells }) refl
     (λ e.
     let one = e.arrived.answered in
-    end-poison rules places me is_sync now.standing b.state s (now.standing me).registration answer last e refl one.0 one.1 one.2)
+    end-poison rules places me is_sync PoisonLock now.standing b.state s (now.standing me).registration answer last e taken refl one.0 one.1 one.2)
 alone rules places me is_sync ClearPoison now s b steps answer last taken h =
     begin-going rules places me is_sync ClearPoison now s b steps answer last taken h (record (now.standing me) { stage = Clear }) refl
     (λ e.

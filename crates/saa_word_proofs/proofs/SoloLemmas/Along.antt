@@ -138,7 +138,7 @@ from-start needs lawful small places me room here call place state answer last s
     subst (λ (next : Next). Invariant needs places now.row (updated now.standing me (place_after (now.standing me) next)) state) is
     (starts needs small places now.row now.standing state me call here s quiet taken) in
     let under : IsUnder needs call registered place.back place.stage [] =
-    subst (λ (next : Next). IsBegun needs call registered next) is (call-begun needs (now.standing me) call quiet) in
+    subst (λ (next : Next). IsBegun needs call registered next) is (call-begun needs (now.standing me) call quiet taken) in
     along needs lawful small places me room here call registered place.registration now.standing state answer last steps (put me (Going place) now) state []
     (record { events = []; run = refl; named = refl }) stands
     (subst (λ (p : Place). IsUnder needs call registered p.back p.stage []) (sym at) under)

@@ -8,7 +8,6 @@ use Rattle.saa_core_spec.specs.Lock.{is_poisoned, try_answer}
 use Rattle.saa_core_spec.specs.Object.{Object, After, Entry, Idle, Waiting, Answered, Waiter, entry_at, with_entry, one_if, holds_slot, slots_in, used, is_nobody}
 use Rattle.saa_core_spec.specs.Asking.{is_idle, is_granted_at_once, tried, granted_at_once, answer_at_once, answer_in as answer_when, joined, registered_of}
 use Rattle.saa_core_spec.proofs.Counts.{one_if-le}
-use Rattle.saa_core_spec.proofs.Refusing.{fits-poisoned}
 use Rattle.saa_word_steps.specs.declared.rules.Rules.{Rules}
 use Rattle.saa_word_steps.specs.declared.rules.Rules.TheVariants.{Permits, Modes}
 use Rattle.saa_word_steps.specs.declared.place.Ask.{Ask}
@@ -22,15 +21,15 @@ use Rattle.saa_word_steps.specs.declared.call.WordCall.TheVariants.{Try, Registe
 use Rattle.saa_word_steps.specs.Needs.{Needs, fits_count, lock_at, needs_of}
 use Rattle.saa_word_steps.specs.declared.event.Event.TheVariants.{Acquired, Refused, Joined, AskedPoisoned}
 use Rattle.saa_word_steps.specs.AbstractState.{AbstractState, IsEnabled, after_event, is_empty, must_wait}
-use Rattle.saa_word_steps.specs.Readings.{is_idle as is_free, is_taken, tried_answer}
+use Rattle.saa_word_steps.specs.Readings.{is_idle as is_free, is_taken, refusing_answer, tried_answer}
 use Rattle.saa_word_proofs.specs.Rows.{updated}
 use Rattle.saa_word_proofs.specs.Calls.{asked_by}
 use Rattle.saa_word_proofs.specs.Represents.{entry_of, held_at, waiters}
 use Rattle.saa_word_proofs.specs.Alone.{PlacesRepresent}
-use Rattle.saa_word_proofs.proofs.SoloLemmas.HeldAt.{plus-at, asks-at, answer-at, held-calm, held-poisoned}
+use Rattle.saa_word_proofs.proofs.SoloLemmas.HeldAt.{plus-at, asks-at, answer-at, held-calm, held-poisoned, refusing-answers, refusing-unfit}
 use Rattle.saa_word_proofs.proofs.SoloLemmas.Fronts.{waiters-append}
 use Rattle.saa_word_proofs.proofs.SoloLemmas.Commands.{trying_says, tried_by, try-call, registered_by, register-call}
-use Rattle.saa_word_proofs.proofs.SoloLemmas.Mirroring.{Starts, Answers, answers-by, calm-semaphore, mirrors-held, mirrors-same, mirrors-set, idle-entry}
+use Rattle.saa_word_proofs.proofs.SoloLemmas.Mirroring.{Starts, Answers, answers-by, mirrors-held, mirrors-same, mirrors-set, idle-entry}
 
 -- Grants at once
 
@@ -63,12 +62,12 @@ waits-test : (needs : Needs) (places : ℕ) (standing : ℕ → Place) (state : 
     → state.poisoned ≡ false → must_wait needs state request ≡ true → is_granted_at_once s (needs.read request) ≡ false
 waits-test needs places standing state s request m calm waits = granted-test needs places standing state s request m calm ∙ ap not waits
 
--- a poisoned lock grants nothing
+-- a poisoned lock grants nothing, nor does a shut semaphore
 poisoned-test : (needs : Needs) (places : ℕ) (standing : ℕ → Place) (state : AbstractState) (s : Object) (request : Request) → PlacesRepresent needs places standing state s
     → state.poisoned ≡ true → is_granted_at_once s request ≡ false
 poisoned-test needs places standing state s request m poisoned =
     let unfit : fits s.held request ≡ false =
-    ap (λ (h : Held). fits h request) (m.held ∙ held-poisoned needs state poisoned) ∙ fits-poisoned request in
+    ap (λ (h : Held). fits h request) (m.held ∙ held-poisoned needs state poisoned) ∙ refusing-unfit needs state.count request in
     rw unfit (and-false (is_nobody s.line))
   where
     and-false : (b : Bool) → (b && false) ≡ false
@@ -87,11 +86,11 @@ got-held rules places me standing state s request m allowed =
 
 -- Tries
 
--- whether the object is poisoned
-poison-at : (rules : Rules) (state : AbstractState) → ((needs_of rules).is_lock ≡ false → state.poisoned ≡ false)
-    → is_poisoned (held_at (needs_of rules) state) ≡ state.poisoned
-poison-at (Permits bound) state calm = rw (calm refl) refl
-poison-at Modes state calm = either state.poisoned
+-- what a try says that is refused, by whether the object is poisoned: only a lock says so
+poison-at : (rules : Rules) (state : AbstractState)
+    → trying_says (needs_of rules).is_lock false (is_poisoned (held_at (needs_of rules) state)) ≡ trying_says (needs_of rules).is_lock false state.poisoned
+poison-at (Permits bound) state = refl
+poison-at Modes state = ap (λ (b : Bool). trying_says true false b) (either state.poisoned)
   where
     either : (poisoned : Bool) → is_poisoned (if poisoned then OfLock Poisoned else OfLock (lock_at state.count)) ≡ poisoned
     either true = refl
@@ -112,6 +111,10 @@ says-got false is_poison = refl
 says-refused : (is_lock : Bool) → trying_says is_lock false false ≡ (if is_lock then Tried (try_answer false false) else Says false)
 says-refused true = refl
 says-refused false = refl
+
+says-poisoned : (is_lock : Bool) → trying_says is_lock false true ≡ (if is_lock then Tried (try_answer false true) else Says false)
+says-poisoned true = refl
+says-poisoned false = refl
 
 pub try-got : (rules : Rules) (places me : ℕ) (is_sync : Bool) (call : WordCall) (standing : ℕ → Place) (state : AbstractState) (s : Object) (ask : Ask) (place : Place)
     → Starts (needs_of rules) places me standing state s → asked_by call ≡ Some ask → ask.joins ≡ false → is_taken (needs_of rules).is_lock call ≡ true
@@ -140,12 +143,10 @@ tried-nothing rules places me is_sync call standing state s ask place answer h a
     let needs : Needs = needs_of rules in
     let m = h.mirrors in
     let nothing : tried s (needs.read ask.request) ≡ record { state = s; reply = false } = rw test refl in
-    let poison : is_poisoned s.held ≡ state.poisoned =
-    ap is_poisoned m.held ∙ poison-at rules state (λ semaphore. calm-semaphore needs places me standing state s h semaphore) in
     answers-by needs places me is_sync call (updated standing me place) s state answer (tried_by needs.is_lock s (record { state = s; reply = false }))
     (try-call rules me is_sync call s ask asks joins taken ∙ ap (λ (a : After Bool). tried_by needs.is_lock s a) nothing)
     (mirrors-same needs places standing state s me place m same)
-    (ap (λ (b : Bool). trying_says needs.is_lock false b) poison ∙ says)
+    (ap (λ (t : Held). trying_says needs.is_lock false (is_poisoned t)) m.held ∙ poison-at rules state ∙ says)
 
 pub try-refused : (rules : Rules) (places me : ℕ) (is_sync : Bool) (call : WordCall) (standing : ℕ → Place) (state : AbstractState) (s : Object) (ask : Ask) (place : Place)
     → Starts (needs_of rules) places me standing state s → asked_by call ≡ Some ask → ask.joins ≡ false → is_taken (needs_of rules).is_lock call ≡ true
@@ -160,12 +161,12 @@ try-refused rules places me is_sync call standing state s ask place h asks joins
 pub try-poisoned : (rules : Rules) (places me : ℕ) (is_sync : Bool) (call : WordCall) (standing : ℕ → Place) (state : AbstractState) (s : Object) (ask : Ask) (place : Place)
     → Starts (needs_of rules) places me standing state s → asked_by call ≡ Some ask → ask.joins ≡ false → is_taken (needs_of rules).is_lock call ≡ true
     → IsEnabled (needs_of rules) state me AskedPoisoned → place.registration ≡ (standing me).registration
-    → Answers (needs_of rules) places me is_sync call (updated standing me place) s state (Tried (try_answer false true))
+    → Answers (needs_of rules) places me is_sync call (updated standing me place) s state (refusing_answer (needs_of rules))
 try-poisoned rules places me is_sync call standing state s ask place h asks joins taken allowed same =
     let needs : Needs = needs_of rules in
-    tried-nothing rules places me is_sync call standing state s ask place (Tried (try_answer false true)) h asks joins taken
+    tried-nothing rules places me is_sync call standing state s ask place (refusing_answer needs) h asks joins taken
     (poisoned-test needs places standing state s (needs.read ask.request) h.mirrors allowed) same
-    (λ i. trying_says ((h.barren allowed).2 i) false (allowed i))
+    (ap (λ (b : Bool). trying_says needs.is_lock false b) allowed ∙ says-poisoned needs.is_lock)
 
 -- a try of more than there is never fits
 pub try-large : (rules : Rules) (places me : ℕ) (is_sync : Bool) (count : ℕ) (standing : ℕ → Place) (state : AbstractState) (s : Object) (place : Place)
@@ -174,10 +175,15 @@ pub try-large : (rules : Rules) (places me : ℕ) (is_sync : Bool) (count : ℕ)
     → Answers (needs_of rules) places me is_sync (Try count) (updated standing me place) s state (Says false)
 try-large (Permits bound) places me is_sync count standing state s place h taken large same =
     let needs : Needs = needs_of (Permits bound) in
-    let calm : state.poisoned ≡ false = calm-semaphore needs places me standing state s h refl in
     let unfit : nat_le (state.count + count) bound ≡ false = grind (arith, nat_tests) in
-    try-refused (Permits bound) places me is_sync (Try count) standing state s (record { request = count; joins = false }) place h refl refl refl
-    (calm, rw unfit (or-true (not (is_empty state.line)))) same
+    elim (cases_Bool state.poisoned) [
+      | inl poisoned ↦
+          tried-nothing (Permits bound) places me is_sync (Try count) standing state s (record { request = count; joins = false }) place (Says false) h
+          refl refl refl (poisoned-test needs places standing state s (needs.read count) h.mirrors poisoned) same refl
+      | inr calm ↦
+          try-refused (Permits bound) places me is_sync (Try count) standing state s (record { request = count; joins = false }) place h refl refl refl
+          (calm, rw unfit (or-true (not (is_empty state.line)))) same
+    ]
   where
     or-true : (b : Bool) → (b || true) ≡ true
     or-true true = refl
@@ -212,7 +218,7 @@ refused-test rules places me standing state s request h =
     let needs : Needs = needs_of rules in
     ap (λ (b : Bool). not (is_idle (entry_at s.book me)) || b)
     (ap (λ (t : Held). asks_too_much t (needs.read request)) h.mirrors.held
-    ∙ asks-at rules state request (λ semaphore. calm-semaphore needs places me standing state s h semaphore))
+    ∙ asks-at rules state request)
 
 -- nothing does where the place is idle, and asks for no more than there is
 free-test : (rules : Rules) (places me : ℕ) (standing : ℕ → Place) (state : AbstractState) (s : Object) (request : ℕ) → Starts (needs_of rules) places me standing state s
@@ -270,16 +276,16 @@ register-got rules places me is_sync call standing state s ask place h asks join
 pub register-poisoned : (rules : Rules) (places me : ℕ) (is_sync : Bool) (call : WordCall) (standing : ℕ → Place) (state : AbstractState) (s : Object) (ask : Ask) (place : Place)
     → Starts (needs_of rules) places me standing state s → asked_by call ≡ Some ask → ask.joins ≡ true → is_taken (needs_of rules).is_lock call ≡ true
     → IsEnabled (needs_of rules) state me AskedPoisoned
-    → (standing me).registration ≡ IsIdle → place.registration ≡ AnsweredAtOnce 2 ask.request
+    → (standing me).registration ≡ IsIdle → ((needs_of rules).is_lock ≡ false → nat_lt (needs_of rules).top ask.request ≡ false)
+    → place.registration ≡ AnsweredAtOnce 2 ask.request
     → Answers (needs_of rules) places me is_sync call (updated standing me place) s state (Says true)
-register-poisoned rules places me is_sync call standing state s ask place h asks joins taken allowed idle once =
+register-poisoned rules places me is_sync call standing state s ask place h asks joins taken allowed idle small once =
     let needs : Needs = needs_of rules in
     let m = h.mirrors in
     let request : Request = needs.read ask.request in
     register-answered rules places me is_sync call standing state state s ask s.held 2 place h asks joins taken
-    (free-test rules places me standing state s ask.request h (idle-entry needs places me standing state s m h.here idle)
-    (λ semaphore. let wrong : false ≡ true = sym semaphore ∙ (h.barren allowed).2 in absurd (cc)))
-    (ap (λ (t : Held). answer_when s t request) (m.held ∙ held-poisoned needs state allowed))
+    (free-test rules places me standing state s ask.request h (idle-entry needs places me standing state s m h.here idle) small)
+    (ap (λ (t : Held). answer_when s t request) (m.held ∙ held-poisoned needs state allowed) ∙ refusing-answers needs s state.count request)
     m.held refl refl once
 
 pub register-joined : (rules : Rules) (places me : ℕ) (is_sync : Bool) (call : WordCall) (standing : ℕ → Place) (state : AbstractState) (s : Object) (ask : Ask) (place : Place)

@@ -15,16 +15,15 @@ use Rattle.saa_word_steps.specs.declared.place.Registration.{Registration}
 use Rattle.saa_word_steps.specs.declared.place.Registration.TheVariants.{Idle as IsIdle, AnsweredAtOnce, Queued}
 use Rattle.saa_word_steps.specs.declared.call.Answer.TheVariants.{Unit as SaysNothing}
 use Rattle.saa_word_steps.specs.declared.call.WordCall.TheVariants.{Cancel}
-use Rattle.saa_word_steps.specs.Needs.{Needs, left_count, lock_at, needs_of}
+use Rattle.saa_word_steps.specs.Needs.{Needs, forgets, left_count, lock_at, needs_of}
 use Rattle.saa_word_steps.specs.declared.event.Event.TheVariants.{AnswerTaken, ReleasedNothing}
 use Rattle.saa_word_steps.specs.AbstractState.{AbstractState, IsEnabled, after_event, is_in, with_answer}
 use Rattle.saa_word_proofs.specs.Refinement.{AreSeats}
 use Rattle.saa_word_proofs.specs.Rows.{updated}
 use Rattle.saa_word_proofs.specs.Registering.{is_slot}
 use Rattle.saa_word_proofs.specs.Calls.{is_taken_up}
-use Rattle.saa_word_proofs.specs.Represents.{entry_of, held_at, waiters}
+use Rattle.saa_word_proofs.specs.Represents.{entry_of, held_at, held_where, waiters}
 use Rattle.saa_word_proofs.specs.Alone.{PlacesRepresent}
-use Rattle.saa_word_proofs.proofs.SoloLemmas.HeldAt.{held-calm}
 use Rattle.saa_word_proofs.proofs.SoloLemmas.Commands.{dropped_by, cancel-call}
 use Rattle.saa_word_proofs.proofs.SoloLemmas.Mirroring.{Starts, Settles, Answers, answers-by, mirrors-same, mirrors-set, mirrors-idle, taken-other, idle-entry, once-entry, shown-entry, waiting-entry, waits-slot}
 use Rattle.saa_word_proofs.proofs.SoloLemmas.Givings.{AreWaiting, settling, giving-back, giving-nothing}
@@ -48,16 +47,18 @@ undone : (rules : Rules) (state : AbstractState) (s : Object) (held : Held) (req
 undone rules state s held request is = ap (λ (h : Held). undone_of s h request) is ∙ either rules state.poisoned
   where
     either : (rules : Rules) (poisoned : Bool)
-        → undone_of s (if poisoned then OfLock Poisoned else (needs_of rules).held state.count) request ≡ (given_back s request).state
-    either rules true = refl
+        → undone_of s (held_where (needs_of rules) poisoned state.count) request ≡ (given_back s request).state
+    either (Permits bound) true = refl
+    either Modes true = refl
     either (Permits bound) false = refl
     either Modes false = refl
 
 leaving : (rules : Rules) (state : AbstractState) (s : Object) (held : Held) → held ≡ held_at (needs_of rules) state → left_of s held ≡ settled s
 leaving rules state s held is = ap (λ (h : Held). left_of s h) is ∙ either rules state.poisoned
   where
-    either : (rules : Rules) (poisoned : Bool) → left_of s (if poisoned then OfLock Poisoned else (needs_of rules).held state.count) ≡ settled s
-    either rules true = refl
+    either : (rules : Rules) (poisoned : Bool) → left_of s (held_where (needs_of rules) poisoned state.count) ≡ settled s
+    either (Permits bound) true = refl
+    either Modes true = refl
     either (Permits bound) false = refl
     either Modes false = refl
 
@@ -141,19 +142,21 @@ gives-none rules places me is_sync standing state middle s value request place h
 -- what it took is given back, and a front is granted
 gives-back : (rules : Rules) (places me : ℕ) (is_sync : Bool) (standing : ℕ → Place) (state middle : AbstractState) (s : Object) (value request left : ℕ) (now : AbstractState) (place : Place)
     → Starts (needs_of rules) places me standing state s → Gives (needs_of rules) places me standing state middle s value request
-    → value == 0 ≡ true → (needs_of rules).takes request == 0 ≡ false → state.poisoned ≡ false → middle.poisoned ≡ false
-    → left_count (needs_of rules) state.count request ≡ Some left → Settles (needs_of rules) left state.line middle.shown now → place.registration ≡ IsIdle
+    → value == 0 ≡ true → (needs_of rules).takes request == 0 ≡ false → forgets (needs_of rules) state.poisoned ≡ false
+    → middle.poisoned ≡ state.poisoned
+    → left_count (needs_of rules) state.count request ≡ Some left → Settles (needs_of rules) middle.poisoned left state.line middle.shown now → place.registration ≡ IsIdle
     → Answers (needs_of rules) places me is_sync Cancel (updated standing me place) s now SaysNothing
-gives-back rules places me is_sync standing state middle s value request left now place h g granted some calm still lefts settles idle =
+gives-back rules places me is_sync standing state middle s value request left now place h g granted some loose still lefts settles idle =
     let needs : Needs = needs_of rules in
     let after : AbstractState = record middle { count = left; line = state.line } in
     let freed : Object = with_entry s me Idle in
-    let given_up : Object = record freed { held = needs.held left } in
+    let given_up : Object = record freed { held = held_where needs state.poisoned left } in
     let drops : dropped_of s me (Answered value (needs.read request) g.mode g.slotted) ≡ settled given_up =
     rw granted (undone rules state freed s.held (needs.read request) h.mirrors.held
-    ∙ ap (λ (a : After Bool). a.state) (giving-back rules state freed request left h.mirrors.held calm h.bounded some lefts)) in
+    ∙ ap (λ (a : After Bool). a.state) (giving-back rules state freed request left h.mirrors.held loose h.bounded some lefts)) in
     let between : PlacesRepresent needs places (updated standing me place) after given_up =
-    mirrors-set needs places standing state after s (needs.held left) s.line Idle me place false h.mirrors h.here (sym (held-calm needs after still))
+    mirrors-set needs places standing state after s (held_where needs state.poisoned left) s.line Idle me place false h.mirrors h.here
+    (ap (λ (b : Bool). held_where needs b left) (sym still))
     h.mirrors.line g.shown (sym (ap (λ (r : Registration). entry_of needs r (after.shown me) false) idle)) in
     let waiting : AreWaiting (updated standing me place) after = λ other there.
     (elim (cases_Bool (other == me)) [
@@ -165,7 +168,7 @@ gives-back rules places me is_sync standing state middle s value request left no
     ]) in
     answers-by needs places me is_sync Cancel (updated standing me place) s now SaysNothing (dropped_by (settled given_up))
     (cancel-call needs.is_lock me is_sync s ∙ ap (λ (e : Entry). dropped_by (dropped_of s me e)) g.entry ∙ ap dropped_by drops)
-    (settling rules places (updated standing me place) after now given_up between still waiting settles) refl
+    (settling rules places (updated standing me place) after now given_up between (λ poisoned. (h.barren (sym still ∙ poisoned)).1) waiting settles) refl
 
 -- what it took isn't held any more
 gives-nothing : (rules : Rules) (places me : ℕ) (is_sync : Bool) (standing : ℕ → Place) (state middle : AbstractState) (s : Object) (value request : ℕ) (place : Place)
@@ -219,13 +222,13 @@ cancel-once rules places me is_sync standing state s value request place h once 
 pub cancel-once-gave : (rules : Rules) (places me : ℕ) (is_sync : Bool) (standing : ℕ → Place) (state : AbstractState) (s : Object) (value request left : ℕ) (now : AbstractState) (place : Place)
     → Starts (needs_of rules) places me standing state s → (standing me).registration ≡ AnsweredAtOnce value request
     → is_taken_up (needs_of rules) request value ≡ true
-    → state.poisoned ≡ false → left_count (needs_of rules) state.count request ≡ Some left
-    → Settles (needs_of rules) left state.line state.shown now → place.registration ≡ IsIdle
+    → forgets (needs_of rules) state.poisoned ≡ false → left_count (needs_of rules) state.count request ≡ Some left
+    → Settles (needs_of rules) state.poisoned left state.line state.shown now → place.registration ≡ IsIdle
     → Answers (needs_of rules) places me is_sync Cancel (updated standing me place) s now SaysNothing
-cancel-once-gave rules places me is_sync standing state s value request left now place h once up calm lefts settles idle =
+cancel-once-gave rules places me is_sync standing state s value request left now place h once up loose lefts settles idle =
     let took = took-something (needs_of rules) request value up in
     gives-back rules places me is_sync standing state state s value request left now place h
-    (once-gives rules places me standing state s value request h once) took.0 took.1 calm calm lefts settles idle
+    (once-gives rules places me standing state s value request h once) took.0 took.1 loose refl lefts settles idle
 
 pub cancel-once-nothing : (rules : Rules) (places me : ℕ) (is_sync : Bool) (standing : ℕ → Place) (state : AbstractState) (s : Object) (value request : ℕ) (place : Place)
     → Starts (needs_of rules) places me standing state s → (standing me).registration ≡ AnsweredAtOnce value request
@@ -274,12 +277,12 @@ takes-some needs request some =
 pub cancel-took-gave : (rules : Rules) (places me : ℕ) (is_sync : Bool) (standing : ℕ → Place) (state : AbstractState) (s : Object) (request left : ℕ) (now : AbstractState) (place : Place)
     → Starts (needs_of rules) places me standing state s → (standing me).registration ≡ Queued request → state.shown me ≡ Some 0
     → ((needs_of rules).takes request ≡ 0 → ⊥)
-    → state.poisoned ≡ false → left_count (needs_of rules) state.count request ≡ Some left
-    → Settles (needs_of rules) left state.line (with_answer me None state.shown) now → place.registration ≡ IsIdle
+    → forgets (needs_of rules) state.poisoned ≡ false → left_count (needs_of rules) state.count request ≡ Some left
+    → Settles (needs_of rules) state.poisoned left state.line (with_answer me None state.shown) now → place.registration ≡ IsIdle
     → Answers (needs_of rules) places me is_sync Cancel (updated standing me place) s now SaysNothing
-cancel-took-gave rules places me is_sync standing state s request left now place h slot shown some calm lefts settles idle =
+cancel-took-gave rules places me is_sync standing state s request left now place h slot shown some loose lefts settles idle =
     gives-back rules places me is_sync standing state (after_event (needs_of rules) state me (AnswerTaken 0)) s 0 request left now place h
-    (shown-gives rules places me standing state s 0 request h slot shown) refl (takes-some (needs_of rules) request some) calm calm lefts settles idle
+    (shown-gives rules places me standing state s 0 request h slot shown) refl (takes-some (needs_of rules) request some) loose refl lefts settles idle
 
 pub cancel-took-nothing : (rules : Rules) (places me : ℕ) (is_sync : Bool) (standing : ℕ → Place) (state : AbstractState) (s : Object) (request : ℕ) (place : Place)
     → Starts (needs_of rules) places me standing state s → (standing me).registration ≡ Queued request → state.shown me ≡ Some 0
@@ -323,7 +326,7 @@ in-without me other (asker ∷ rest) there =
 
 pub cancel-left : (rules : Rules) (places me : ℕ) (is_sync : Bool) (standing : ℕ → Place) (state : AbstractState) (s : Object) (now : AbstractState) (place : Place)
     → Starts (needs_of rules) places me standing state s → is_in me state.line ≡ true
-    → Settles (needs_of rules) state.count (without me state.line) state.shown now → place.registration ≡ IsIdle
+    → Settles (needs_of rules) state.poisoned state.count (without me state.line) state.shown now → place.registration ≡ IsIdle
     → Answers (needs_of rules) places me is_sync Cancel (updated standing me place) s now SaysNothing
 cancel-left rules places me is_sync standing state s now place h there settles idle =
     let needs : Needs = needs_of rules in
@@ -350,4 +353,4 @@ cancel-left rules places me is_sync standing state s now place h there settles i
     ]) in
     answers-by needs places me is_sync Cancel (updated standing me place) s now SaysNothing (dropped_by (settled left))
     (cancel-call needs.is_lock me is_sync s ∙ ap (λ (e : Entry). dropped_by (dropped_of s me e)) entry.2 ∙ ap dropped_by drops)
-    (settling rules places (updated standing me place) after now left between calm waiting settles) refl
+    (settling rules places (updated standing me place) after now left between (λ poisoned. let wrong : true ≡ false = sym poisoned ∙ calm in absurd (cc)) waiting settles) refl

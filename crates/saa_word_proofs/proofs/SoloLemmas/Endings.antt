@@ -1,9 +1,7 @@
 -- The sequential object beside a call that moved alone, once it is done: by the events that its answer names.
 use Rattle.std.proofs.Common.{◌≡◌, ◌≢◌, ℕ, Bool, true, false, not, ◌&&◌, List, [], ◌∷◌, ◌==◌, nat_lt, Option, Some, None, if◌then◌else◌, Ok, Err, refl, sym, ap, subst, ◌∙◌, inl, inr}
-use Rattle.std.proofs.lemmas.Bool.{cases_Bool}
 use Rattle.saa_core_spec.specs.Object.{Object}
 use Rattle.saa_core_spec.specs.Values.{granted_value, poisoned_value}
-use Rattle.saa_core_spec.specs.Lock.{try_answer}
 use Rattle.saa_core_spec.specs.declared.polling.Error.TheVariants.{NotReady as IsNotReady}
 use Rattle.saa_core_spec.proofs.Counts.{same_number}
 use Rattle.saa_word_steps.specs.declared.rules.Rules.{Rules}
@@ -16,17 +14,17 @@ use Rattle.saa_word_steps.specs.declared.place.ReleaseAmount.TheVariants.{Reques
 use Rattle.saa_word_steps.specs.declared.place.Registration.{Registration}
 use Rattle.saa_word_steps.specs.declared.place.Registration.TheVariants.{Idle, AnsweredAtOnce, Queued}
 use Rattle.saa_word_steps.specs.declared.call.Answer.{Answer}
-use Rattle.saa_word_steps.specs.declared.call.Answer.TheVariants.{Bool as Says, Tried, Taken, Unit as SaysNothing}
+use Rattle.saa_word_steps.specs.declared.call.Answer.TheVariants.{Bool as Says, Taken, Unit as SaysNothing}
 use Rattle.saa_word_steps.specs.declared.call.WordCall.{WordCall}
-use Rattle.saa_word_steps.specs.declared.call.WordCall.TheVariants.{Downgrade, PoisonLock, ClearPoison, TryPoll, Poll, Cancel}
+use Rattle.saa_word_steps.specs.declared.call.WordCall.TheVariants.{Downgrade, ClearPoison, TryPoll, Poll, Cancel}
 use Rattle.saa_word_steps.specs.Needs.{Needs, needs_of}
 use Rattle.saa_word_steps.specs.declared.event.Event.{Event}
 use Rattle.saa_word_steps.specs.declared.event.Event.TheVariants.{Acquired, Refused, AskedPoisoned, Joined, Cancelled, Released, ReleasedNothing, Lowered, NotLowered, Poisoned, NotPoisoned, Cleared, NotCleared, NotReady, AnswerTaken, Read}
-use Rattle.saa_word_steps.specs.AbstractState.{AbstractState, IsEnabled, after_event, count_or, is_in}
-use Rattle.saa_word_steps.specs.Readings.{is_taken, read_as, tried_answer}
+use Rattle.saa_word_steps.specs.AbstractState.{AbstractState, IsEnabled, after_event, count_or}
+use Rattle.saa_word_steps.specs.Readings.{is_taken, read_as, refusing_answer, tried_answer}
 use Rattle.saa_word_proofs.specs.Rows.{updated}
 use Rattle.saa_word_proofs.specs.Calls.{asked_by, ask_named, release_named, read_named, poll_named, poison_named, clear_named, is_taken_up, IsDropped, IsCancelled}
-use Rattle.saa_word_proofs.specs.CallStages.{given_by, read_by, taken_by}
+use Rattle.saa_word_proofs.specs.CallStages.{given_by, is_poisoning, read_by, taken_by}
 use Rattle.saa_word_proofs.specs.Alone.{Configuration}
 use Rattle.saa_word_proofs.specs.Promises.{WordsAreQuiescent}
 use Rattle.saa_word_proofs.proofs.SoloLemmas.Mirroring.{Starts, Settles, Answers}
@@ -121,13 +119,13 @@ end-try rules places me is_sync call first start s was answer last e ask asks tr
     (λ allowed. try-refused rules places me is_sync call first start s ask (last.standing me) e.starts asks tries e.taken allowed left)
 end-try rules places me is_sync call first start s was answer last e ask asks tries kept AskedPoisoned names says =
     let needs : Needs = needs_of rules in
-    let said : (if ask.joins then Says true else Tried (try_answer false true)) ≡ answer =
-    some-same (if ask.joins then Says true else Tried (try_answer false true)) answer says in
+    let said : (if ask.joins then Says true else refusing_answer (needs_of rules)) ≡ answer =
+    some-same (if ask.joins then Says true else refusing_answer (needs_of rules)) answer says in
     let left : (last.standing me).registration ≡ (first me).registration =
     left-as rules places me call first start s was answer last e (AskedPoisoned ∷ []) (Some ask) names asks
     ∙ ap (λ (b : Bool). if b then AnsweredAtOnce poisoned_value ask.request else was) tries ∙ kept in
-    only rules places me is_sync call first start s was answer last e AskedPoisoned (Tried (try_answer false true)) names
-    (ap (λ (b : Bool). if b then Says true else Tried (try_answer false true)) (sym tries) ∙ said) e.closed e.starts.paid
+    only rules places me is_sync call first start s was answer last e AskedPoisoned (refusing_answer needs) names
+    (ap (λ (b : Bool). if b then Says true else refusing_answer needs) (sym tries) ∙ said) e.closed e.starts.paid
     (λ allowed. try-poisoned rules places me is_sync call first start s ask (last.standing me) e.starts asks tries e.taken allowed left)
 end-try rules places me is_sync call first start s was answer last e ask asks tries kept (Joined request) names says =
     let both = named-if ((request == ask.request) && ask.joins) (Says true) answer says in
@@ -159,14 +157,14 @@ end-register rules places me is_sync call first start s was answer last e ask as
     only rules places me is_sync call first start s was answer last e (Joined ask.request) (Says true) joined both.1 e.closed e.starts.paid
     (λ allowed. register-joined rules places me is_sync call first start s ask (last.standing me) e.starts asks joins e.taken allowed idle within left)
 end-register rules places me is_sync call first start s was answer last e ask asks joins idle within AskedPoisoned names says =
-    let said : (if ask.joins then Says true else Tried (try_answer false true)) ≡ answer =
-    some-same (if ask.joins then Says true else Tried (try_answer false true)) answer says in
+    let said : (if ask.joins then Says true else refusing_answer (needs_of rules)) ≡ answer =
+    some-same (if ask.joins then Says true else refusing_answer (needs_of rules)) answer says in
     let left : (last.standing me).registration ≡ AnsweredAtOnce poisoned_value ask.request =
     left-as rules places me call first start s was answer last e (AskedPoisoned ∷ []) (Some ask) names asks
     ∙ ap (λ (b : Bool). if b then AnsweredAtOnce poisoned_value ask.request else was) joins in
     only rules places me is_sync call first start s was answer last e AskedPoisoned (Says true) names
-    (ap (λ (b : Bool). if b then Says true else Tried (try_answer false true)) (sym joins) ∙ said) e.closed e.starts.paid
-    (λ allowed. register-poisoned rules places me is_sync call first start s ask (last.standing me) e.starts asks joins e.taken allowed idle left)
+    (ap (λ (b : Bool). if b then Says true else refusing_answer (needs_of rules)) (sym joins) ∙ said) e.closed e.starts.paid
+    (λ allowed. register-poisoned rules places me is_sync call first start s ask (last.standing me) e.starts asks joins e.taken allowed idle within left)
 end-register rules places me is_sync call first start s was answer last e ask asks joins idle within (Refused request) names says =
     let both = named-if ((request == ask.request) && not ask.joins) (tried_answer (needs_of rules) false) answer says in
     let wrong : true ≡ false = sym joins ∙ not-true ask.joins (both-true (request == ask.request) (not ask.joins) both.0).1 in absurd (cc)
@@ -176,10 +174,10 @@ end-register rules places me is_sync call first start s was answer last e ask as
 
 -- what was given back lets the front of the line go, until the object is at rest
 gave-settles : (needs : Needs) (me : ℕ) (state last : AbstractState) (row : ℕ → ℕ) (request : ℕ) (f : IsFirst needs me state (Released request) [] last)
-    → ((place : ℕ) → state.due place ≡ None) → WordsAreQuiescent needs row last → Settles needs f.allowed.1.0 state.line state.shown last
+    → ((place : ℕ) → state.due place ≡ None) → WordsAreQuiescent needs row last → Settles needs state.poisoned f.allowed.1.0 state.line state.shown last
 gave-settles needs me state last row request f paid rests =
-    subst (λ (n : ℕ). Settles needs n state.line state.shown last) (ap (count_or state.count) f.allowed.1.1)
-    (settles needs me f.rest (after_event needs state me (Released request)) last row f.names f.run paid f.allowed.0 rests)
+    subst (λ (n : ℕ). Settles needs state.poisoned n state.line state.shown last) (ap (count_or state.count) f.allowed.1.1)
+    (settles needs me f.rest (after_event needs state me (Released request)) last row f.names f.run paid rests)
 
 pub end-release : (rules : Rules) (places me : ℕ) (is_sync : Bool) (call : WordCall) (first : ℕ → Place) (start : AbstractState) (s : Object) (was : Registration) (answer : Answer) (last : Configuration)
     (e : IsOver rules places me call first start s was answer last) (given : ℕ) → given_by call ≡ Some (Requested given)
@@ -216,7 +214,7 @@ end-downgrade rules places me is_sync first start s was answer last e kept Lower
     let f = came-first rules places me Downgrade first start s was answer last e Lowered [] names in
     subst (λ (a : Answer). Beside rules places me is_sync Downgrade first s e.arrived.state a last) (some-same (Says true) answer says)
     (downgrade-done rules places me is_sync first start s e.arrived.state (last.standing me) e.starts e.taken f.allowed
-    (settles needs me f.rest (after_event needs start me Lowered) e.arrived.state last.row f.names f.run e.starts.paid f.allowed.0 e.rest)
+    (settles needs me f.rest (after_event needs start me Lowered) e.arrived.state last.row f.names f.run e.starts.paid e.rest)
     (left-as rules places me Downgrade first start s was answer last e (Lowered ∷ []) None names refl ∙ kept))
 end-downgrade rules places me is_sync first start s was answer last e kept NotLowered names says =
     only rules places me is_sync Downgrade first start s was answer last e NotLowered (Says false) names (some-same (Says false) answer says)
@@ -272,22 +270,22 @@ end-read rules places me is_sync call first start s was answer last e reading lo
 
 -- Poison
 
-pub end-poison : (rules : Rules) (places me : ℕ) (is_sync : Bool) (first : ℕ → Place) (start : AbstractState) (s : Object) (was : Registration) (answer : Answer) (last : Configuration)
-    (e : IsOver rules places me PoisonLock first start s was answer last) → was ≡ (first me).registration
+pub end-poison : (rules : Rules) (places me : ℕ) (is_sync : Bool) (call : WordCall) (first : ℕ → Place) (start : AbstractState) (s : Object) (was : Registration) (answer : Answer) (last : Configuration)
+    (e : IsOver rules places me call first start s was answer last) → is_poisoning (needs_of rules).is_lock call ≡ true → was ≡ (first me).registration
     → (event : Event) → e.arrived.names ≡ event ∷ [] → poison_named event ≡ Some answer
-    → Beside rules places me is_sync PoisonLock first s e.arrived.state answer last
-end-poison rules places me is_sync first start s was answer last e kept Poisoned names says =
-    let f = came-first rules places me PoisonLock first start s was answer last e Poisoned [] names in
+    → Beside rules places me is_sync call first s e.arrived.state answer last
+end-poison rules places me is_sync call first start s was answer last e poisons kept Poisoned names says =
+    let f = came-first rules places me call first start s was answer last e Poisoned [] names in
     let told = tells (needs_of rules) me f.rest start e.arrived.state f.names f.run e.closed e.starts.paid e.rest.paid in
-    subst (λ (a : Answer). Beside rules places me is_sync PoisonLock first s e.arrived.state a last) (some-same (Says true) answer says)
-    (poison-done rules places me is_sync first start s e.arrived.state (last.standing me) e.starts e.taken f.allowed told.0 told.1 told.2
-    (left-as rules places me PoisonLock first start s was answer last e (Poisoned ∷ []) None names refl ∙ kept))
-end-poison rules places me is_sync first start s was answer last e kept NotPoisoned names says =
-    only rules places me is_sync PoisonLock first start s was answer last e NotPoisoned (Says false) names (some-same (Says false) answer says)
+    subst (λ (a : Answer). Beside rules places me is_sync call first s e.arrived.state a last) (some-same (Says true) answer says)
+    (poison-done rules places me is_sync call first start s e.arrived.state (last.standing me) e.starts poisons f.allowed told.0 told.1 told.2 told.3
+    (left-as rules places me call first start s was answer last e (Poisoned ∷ []) (asked_by call) names refl ∙ kept))
+end-poison rules places me is_sync call first start s was answer last e poisons kept NotPoisoned names says =
+    only rules places me is_sync call first start s was answer last e NotPoisoned (Says false) names (some-same (Says false) answer says)
     e.closed e.starts.paid
-    (λ allowed. poison-refused rules places me is_sync first start s (last.standing me) e.starts e.taken allowed
-    (left-as rules places me PoisonLock first start s was answer last e (NotPoisoned ∷ []) None names refl ∙ kept))
-end-poison rules places me is_sync first start s was answer last e kept _ names says = absurd (cc)
+    (λ allowed. poison-refused rules places me is_sync call first start s (last.standing me) e.starts poisons allowed
+    (left-as rules places me call first start s was answer last e (NotPoisoned ∷ []) (asked_by call) names refl ∙ kept))
+end-poison rules places me is_sync call first start s was answer last e poisons kept _ names says = absurd (cc)
 
 pub end-clear : (rules : Rules) (places me : ℕ) (is_sync : Bool) (first : ℕ → Place) (start : AbstractState) (s : Object) (was : Registration) (answer : Answer) (last : Configuration)
     (e : IsOver rules places me ClearPoison first start s was answer last) → was ≡ (first me).registration
@@ -332,13 +330,8 @@ end-left : (rules : Rules) (places me : ℕ) (is_sync : Bool) (first : ℕ → P
 end-left rules places me is_sync first start s was last e names =
     let needs : Needs = needs_of rules in
     let f = came-first rules places me Cancel first start s was SaysNothing last e Cancelled [] names in
-    let calm : start.poisoned ≡ false =
-    elim (cases_Bool start.poisoned) [
-      | inl poisoned ↦ let wrong : false ≡ true = sym (ap (is_in me) (e.starts.barren poisoned).1) ∙ f.allowed in absurd (cc)
-      | inr calm ↦ calm
-    ] in
     cancel-left rules places me is_sync first start s e.arrived.state (last.standing me) e.starts f.allowed
-    (settles needs me f.rest (after_event needs start me Cancelled) e.arrived.state last.row f.names f.run e.starts.paid calm e.rest)
+    (settles needs me f.rest (after_event needs start me Cancelled) e.arrived.state last.row f.names f.run e.starts.paid e.rest)
     (left-as rules places me Cancel first start s was SaysNothing last e (Cancelled ∷ []) None names refl)
 
 -- a cancel that takes its answer and gives back what was granted

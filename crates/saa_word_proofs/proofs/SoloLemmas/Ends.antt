@@ -234,7 +234,7 @@ ends needs lawful wide places row standing state me call room here s quiet taken
     let way_is = way-length places row (main_of row).tail s.uncut (uncut-way needs places row standing state s) in
     let parts : length state.line ≡ length s.cut + length s.uncut = ap length s.line.parts ∙ length-append s.cut s.uncut in
     let small : 8 * way places row (main_of row).tail + 11 ≤ 8 * length state.line + 24 = omega (arith, way_is, parts) in
-    begins needs places me call (standing me).registration now (8 * length state.line + 24) next refl (call-begun needs (standing me) call (quiet me))
+    begins needs places me call (standing me).registration now (8 * length state.line + 24) next refl (call-begun needs (standing me) call (quiet me) taken)
     (λ place is. by-call call taken absent small place is)
   where
     other : (call : WordCall) → is_taken needs.is_lock call ≡ true → (call ≡ Poll → ⊥)

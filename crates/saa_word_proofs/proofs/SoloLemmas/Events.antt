@@ -3,7 +3,7 @@ use Rattle.std.proofs.Common.{◌≡◌, ◌⊎◌, ℕ, ◌+◌, Bool, true, fa
 use Rattle.std.proofs.lemmas.List.{take-append-drop}
 use Rattle.std.proofs.lemmas.Bool.{cases_Bool}
 use Rattle.saa_core_spec.proofs.Counts.{same_number}
-use Rattle.saa_word_steps.specs.Needs.{Needs}
+use Rattle.saa_word_steps.specs.Needs.{Needs, kept}
 use Rattle.saa_word_steps.specs.declared.event.Event.{Event}
 use Rattle.saa_word_steps.specs.declared.event.Event.TheVariants.{Closed, Granted, Showed, Poisoned}
 use Rattle.saa_word_steps.specs.AbstractState.{AbstractState, IsEnabled, after_event, IsRun, IsFront, is_in, takes_of, answered_with}
@@ -196,14 +196,14 @@ grants-run needs me (event ∷ rest) start state last names run was =
 
 -- Where answers name nothing more, and nothing is due, the front of the line that fits is granted until the object is at rest
 pub settles : (needs : Needs) (me : ℕ) (events : List Event) (start last : AbstractState) (row : ℕ → ℕ) → named events ≡ []
-    → IsRun needs start (of_place me events) last → ((place : ℕ) → start.due place ≡ None) → start.poisoned ≡ false
-    → WordsAreQuiescent needs row last → Settles needs start.count start.line start.shown last
-settles needs me events start last row names run paid calm rests =
+    → IsRun needs start (of_place me events) last → ((place : ℕ) → start.due place ≡ None)
+    → WordsAreQuiescent needs row last → Settles needs start.poisoned start.count start.line start.shown last
+settles needs me events start last row names run paid rests =
     let g : Grants needs start last =
     grants-run needs me events start start last names run
     (record { front = []; parts = refl; fits = tt; count = omega arith; poison = refl; paid = λ place. inr (paid place, refl) }) in
     record {
-      calm = g.poison ∙ calm;
+      same = g.poison;
       front = g.front;
       parts = g.parts;
       fits = g.fits;
@@ -214,19 +214,21 @@ settles needs me events start last row names run paid calm rests =
 
 -- Poison
 
--- the answers of all waiters are due or shown since the lock was poisoned, and nothing else changed
-record Tells (start state : AbstractState) : Type 0 where
+-- the answers of all waiters are due or shown since the lock was poisoned, or the semaphore shut, and nothing else changed
+record Tells (needs : Needs) (start state : AbstractState) : Type 0 where
   poison : state.poisoned ≡ true
+  count : state.count ≡ kept needs start.count
   closed : state.unclosed ≡ false
   line : state.line ≡ []
   paid : (place : ℕ) → IsPaid 2 start start.line state place
 
 tells-event : (needs : Needs) (start state : AbstractState) (me : ℕ) (event : Event) → is_named event ≡ false → IsEnabled needs state me event
-    → Tells start state → Tells start (after_event needs state me event)
+    → Tells needs start state → Tells needs start (after_event needs state me event)
 tells-event needs start state me (Granted askers) unnamed allowed was = let wrong : true ≡ false = sym allowed.0 ∙ was.closed in absurd (cc)
 tells-event needs start state me Closed unnamed allowed was = let wrong : true ≡ false = sym allowed.0 ∙ was.closed in absurd (cc)
 tells-event needs start state me (Showed shown_place) unnamed allowed was = record {
   poison = was.poison;
+  count = was.count;
   closed = was.closed;
   line = was.line;
   paid = paid-shown needs 2 start state start.line me shown_place allowed.0 was.paid;
@@ -234,8 +236,8 @@ tells-event needs start state me (Showed shown_place) unnamed allowed was = reco
 tells-event needs start state me _ unnamed allowed was = let wrong : true ≡ false = unnamed in absurd (cc)
 
 tells-run : (needs : Needs) (me : ℕ) (events : List Event) (start state last : AbstractState) → named events ≡ [] → IsRun needs state (of_place me events) last
-    → Tells start state → Tells start last
-tells-run needs me [] start state last names run was = subst (λ (z : AbstractState). Tells start z) run was
+    → Tells needs start state → Tells needs start last
+tells-run needs me [] start state last names run was = subst (λ (z : AbstractState). Tells needs start z) run was
 tells-run needs me (event ∷ rest) start state last names run was =
     elim (cases_Bool (is_named event)) [
       | inl is ↦ absurd (some-nil event (named rest) (sym (named-one event rest is) ∙ names))
@@ -249,11 +251,12 @@ pub tells : (needs : Needs) (me : ℕ) (events : List Event) (start last : Abstr
     → IsRun needs (after_event needs start me Poisoned) (of_place me events) last → start.unclosed ≡ false
     → ((place : ℕ) → start.due place ≡ None) → ((place : ℕ) → last.due place ≡ None)
     → (last.poisoned ≡ true) × (last.line ≡ []) × ((place : ℕ) → last.shown place ≡ answered_with 2 start.line start.shown place)
+    × (last.count ≡ kept needs start.count)
 tells needs me events start last names run closed paid none =
-    let t : Tells start last =
+    let t : Tells needs start last =
     tells-run needs me events start (after_event needs start me Poisoned) last names run
-    (record { poison = refl; closed = closed; line = refl; paid = λ place. owes place }) in
-    (t.poison, t.line, paid-all 2 start last start.line t.paid none)
+    (record { poison = refl; count = refl; closed = closed; line = refl; paid = λ place. owes place }) in
+    (t.poison, t.line, paid-all 2 start last start.line t.paid none, t.count)
   where
     owes : (place : ℕ) → IsPaid 2 start start.line (after_event needs start me Poisoned) place
     owes place =

@@ -1,10 +1,10 @@
 -- The sequential object beside a release: what is given back, and the front that is granted behind it.
-use Rattle.std.proofs.Common.{◌≡◌, ℕ, ◌+◌, ◌≤◌, Bool, true, false, ◌||◌, List, ◌++◌, ◌==◌, nat_lt, nat_le, if◌then◌else◌, Option, Some, None, refl, sym, ap, subst, ◌∙◌, arith, inl, inr}
+use Rattle.std.proofs.Common.{◌≡◌, ℕ, ◌+◌, ◌≤◌, Bool, true, false, ◌||◌, List, [], ◌∷◌, ◌++◌, take, drop, ◌==◌, nat_lt, nat_le, if◌then◌else◌, Option, Some, None, refl, sym, ap, subst, ◌∙◌, arith, inl, inr}
 use Rattle.std.proofs.lemmas.Bool.{cases_Bool}
 use Rattle.std.proofs.lemmas.Bool.Decides.{nat_tests}
 use Rattle.saa_core_spec.specs.Held.{Held, less}
 use Rattle.saa_core_spec.specs.Object.{Object, entry_at, Waiter}
-use Rattle.saa_core_spec.specs.Settling.{answered_entry, answered_in, settled}
+use Rattle.saa_core_spec.specs.Settling.{answered_entry, answered_in, fitting_front, plus_all, settled}
 use Rattle.saa_core_spec.specs.Polling.{given_back, given_back_of}
 use Rattle.saa_core_spec.proofs.Counts.{same_number}
 use Rattle.saa_word_steps.specs.declared.rules.Rules.{Rules}
@@ -15,7 +15,7 @@ use Rattle.saa_word_steps.specs.declared.place.Registration.{Registration}
 use Rattle.saa_word_steps.specs.declared.call.Answer.TheVariants.{Bool as Says}
 use Rattle.saa_word_steps.specs.declared.call.WordCall.{WordCall}
 use Rattle.saa_word_steps.specs.declared.call.WordCall.TheVariants.{Release, ReleaseLock, ReleaseShare}
-use Rattle.saa_word_steps.specs.Needs.{Needs, left_count, lock_needs, needs_of}
+use Rattle.saa_word_steps.specs.Needs.{Needs, forgets, left_count, lock_needs, needs_of}
 use Rattle.saa_word_steps.specs.declared.event.Event.TheVariants.{ReleasedNothing}
 use Rattle.saa_word_steps.specs.AbstractState.{AbstractState, IsEnabled, IsSettledAt, is_in, takes_of, answered_with}
 use Rattle.saa_word_steps.specs.Readings.{is_taken}
@@ -24,9 +24,9 @@ use Rattle.saa_word_proofs.specs.Rows.{updated}
 use Rattle.saa_word_proofs.specs.Registering.{is_slot}
 use Rattle.saa_word_proofs.specs.CallStages.{given_by}
 use Rattle.saa_word_proofs.proofs.RefinementLemmas.Lists.{in-append}
-use Rattle.saa_word_proofs.specs.Represents.{entry_of, held_at, waiters}
+use Rattle.saa_word_proofs.specs.Represents.{entry_of, held_at, held_where, waiters}
 use Rattle.saa_word_proofs.specs.Alone.{PlacesRepresent}
-use Rattle.saa_word_proofs.proofs.SoloLemmas.HeldAt.{held_of, less-at, for-something, held-calm, held-poisoned}
+use Rattle.saa_word_proofs.proofs.SoloLemmas.HeldAt.{less-none, less-where, for-something, held-calm}
 use Rattle.saa_word_proofs.proofs.SoloLemmas.Fronts.{entry-answered, length-answered, settled-front}
 use Rattle.saa_word_proofs.proofs.SoloLemmas.Commands.{given_back_by, release-call}
 use Rattle.saa_word_proofs.proofs.SoloLemmas.Mirroring.{Starts, Settles, Answers, answers-by, AreEntries, mirrors-held, mirrors-same, slot-is, waits-slot}
@@ -64,11 +64,48 @@ answered-entries value needs places standing state s front rest shown m waiting 
           (h.0, entry ∙ rw apart h.1 ∙ ap (λ (a : Option ℕ). entry_of needs (standing other).registration a h.0) (sym answer))
     ]
 
--- settling is granting a front and showing it
-pub settling : (rules : Rules) (places : ℕ) (standing : ℕ → Place) (state now : AbstractState) (s : Object) → PlacesRepresent (needs_of rules) places standing state s
-    → state.poisoned ≡ false → AreWaiting standing state → Settles (needs_of rules) state.count state.line state.shown now
+-- where nobody waits nothing is settled
+settled-empty : (s : Object) → s.line ≡ [] → settled s ≡ s
+unfolding settled
+settled-empty s none =
+    ap (λ (l : List Waiter). record s {
+      held = plus_all s.held (take (fitting_front s.held l) l);
+      line = drop (fitting_front s.held l) l;
+      book = answered_in 0 (take (fitting_front s.held l) l) s.book;
+    }) none
+    ∙ λ i. record s { line = sym none i }
+
+-- what a line without waiters is made of
+none-parts : (front rest : List (ℕ × ℕ)) → front ++ rest ≡ [] → (front ≡ []) × (rest ≡ [])
+none-parts [] rest none = (refl, none)
+none-parts (asker ∷ front) rest none = absurd (cc)
+
+settling-none : (rules : Rules) (places : ℕ) (standing : ℕ → Place) (state now : AbstractState) (s : Object) → PlacesRepresent (needs_of rules) places standing state s
+    → state.line ≡ [] → Settles (needs_of rules) state.poisoned state.count state.line state.shown now
     → PlacesRepresent (needs_of rules) places standing now (settled s)
-settling rules places standing state now s m calm waiting g =
+settling-none rules places standing state now s m empty g =
+    let needs : Needs = needs_of rules in
+    let idle : s.line ≡ [] = m.line ∙ ap (waiters needs) empty in
+    let none = none-parts g.front now.line (sym g.parts ∙ empty) in
+    let nothing : takes_of needs g.front ≡ 0 = ap (takes_of needs) none.0 in
+    let counts : state.count ≡ now.count = omega (arith, g.count, nothing) in
+    let after : PlacesRepresent needs places standing now s = record {
+      held = m.held ∙ λ i. held_where needs (sym g.same i) (counts i);
+      line = idle ∙ sym (ap (waiters needs) none.1);
+      names = m.names;
+      entries = λ other within.
+          let h = m.entries other within in
+          let shown : now.shown other ≡ state.shown other = g.shown other ∙ ap (λ (f : List (ℕ × ℕ)). answered_with 0 f state.shown other) none.0 in
+          (h.0, h.1 ∙ ap (λ (a : Option ℕ). entry_of needs (standing other).registration a h.0) (sym shown));
+      room = m.room;
+      alone = m.alone;
+    } in
+    subst (λ (o : Object). PlacesRepresent needs places standing now o) (sym (settled-empty s idle)) after
+
+settling-calm : (rules : Rules) (places : ℕ) (standing : ℕ → Place) (state now : AbstractState) (s : Object) → PlacesRepresent (needs_of rules) places standing state s
+    → state.poisoned ≡ false → AreWaiting standing state → Settles (needs_of rules) state.poisoned state.count state.line state.shown now
+    → PlacesRepresent (needs_of rules) places standing now (settled s)
+settling-calm rules places standing state now s m calm waiting g =
     let needs : Needs = needs_of rules in
     let all : List Waiter = waiters needs g.front in
     let behind : Object = record s {
@@ -80,7 +117,7 @@ settling rules places standing state now s m calm waiting g =
     settled-front rules state.count g.front now.line s (m.held ∙ held-calm needs state calm) (m.line ∙ ap (waiters needs) g.parts) g.fits
     (subst (λ (n : ℕ). IsSettledAt needs n now.line) g.count g.settled) in
     let after : PlacesRepresent needs places standing now behind = record {
-      held = ap needs.held (sym g.count) ∙ sym (held-calm needs now g.calm);
+      held = ap needs.held (sym g.count) ∙ sym (held-calm needs now (g.same ∙ calm));
       line = refl;
       names = length-answered 0 all s.book ∙ m.names;
       entries = answered-entries 0 needs places standing state s g.front now.line now.shown m waiting g.parts g.shown;
@@ -89,17 +126,28 @@ settling rules places standing state now s m calm waiting g =
     } in
     subst (λ (o : Object). PlacesRepresent needs places standing now o) (sym settles) after
 
+-- settling is granting a front and showing it
+pub settling : (rules : Rules) (places : ℕ) (standing : ℕ → Place) (state now : AbstractState) (s : Object) → PlacesRepresent (needs_of rules) places standing state s
+    → (state.poisoned ≡ true → state.line ≡ []) → AreWaiting standing state → Settles (needs_of rules) state.poisoned state.count state.line state.shown now
+    → PlacesRepresent (needs_of rules) places standing now (settled s)
+settling rules places standing state now s m barren waiting g =
+    elim (cases_Bool state.poisoned) [
+      | inl poisoned ↦ settling-none rules places standing state now s m (barren poisoned) g
+      | inr calm ↦ settling-calm rules places standing state now s m calm waiting g
+    ]
+
 -- Giving back
 
 -- what is held is given back, and the line is settled
-pub giving-back : (rules : Rules) (state : AbstractState) (s : Object) (request left : ℕ) → s.held ≡ held_at (needs_of rules) state → state.poisoned ≡ false
+pub giving-back : (rules : Rules) (state : AbstractState) (s : Object) (request left : ℕ) → s.held ≡ held_at (needs_of rules) state
+    → forgets (needs_of rules) state.poisoned ≡ false
     → state.count ≤ (needs_of rules).top → (needs_of rules).takes request == 0 ≡ false → left_count (needs_of rules) state.count request ≡ Some left
-    → given_back s ((needs_of rules).read request) ≡ record { state = settled (record s { held = (needs_of rules).held left }); reply = true }
-giving-back rules state s request left held calm bounded some gives =
+    → given_back s ((needs_of rules).read request)
+    ≡ record { state = settled (record s { held = held_where (needs_of rules) state.poisoned left }); reply = true }
+giving-back rules state s request left held loose bounded some gives =
     let needs : Needs = needs_of rules in
-    let gave : less s.held (needs.read request) ≡ Some (needs.held left) =
-    ap (λ (h : Held). less h (needs.read request)) (held ∙ held-calm needs state calm) ∙ less-at rules state.count request bounded
-    ∙ ap (held_of needs) gives in
+    let gave : less s.held (needs.read request) ≡ Some (held_where needs state.poisoned left) =
+    ap (λ (h : Held). less h (needs.read request)) held ∙ less-where rules state.poisoned state.count request left loose bounded gives in
     λ i. given_back_of s (for-something rules request some i) (gave i)
 
 -- what isn't held isn't given back
@@ -109,12 +157,7 @@ pub giving-nothing : (rules : Rules) (state : AbstractState) (s : Object) (me re
 giving-nothing rules state s me request held bounded some allowed =
     let needs : Needs = needs_of rules in
     let nothing : less s.held (needs.read request) ≡ None =
-    elim (cases_Bool state.poisoned) [
-      | inl poisoned ↦ ap (λ (h : Held). less h (needs.read request)) (held ∙ held-poisoned needs state poisoned)
-      | inr calm ↦
-          ap (λ (h : Held). less h (needs.read request)) (held ∙ held-calm needs state calm) ∙ less-at rules state.count request bounded
-          ∙ ap (held_of needs) (allowed calm)
-    ] in
+    ap (λ (h : Held). less h (needs.read request)) held ∙ less-none rules state.poisoned state.count request bounded allowed in
     λ i. given_back_of s (for-something rules request some i) (nothing i)
 
 -- Releases
@@ -147,20 +190,20 @@ waiting-same places me standing state place seats same other there =
 pub release-gave : (rules : Rules) (places me : ℕ) (is_sync : Bool) (call : WordCall) (standing : ℕ → Place) (state : AbstractState) (s : Object) (given left : ℕ) (now : AbstractState) (place : Place)
     → Starts (needs_of rules) places me standing state s → given_by call ≡ Some (Requested given) → is_taken (needs_of rules).is_lock call ≡ true
     → ((needs_of rules).is_lock ≡ false → given == 0 ≡ false)
-    → state.poisoned ≡ false → left_count (needs_of rules) state.count given ≡ Some left
-    → Settles (needs_of rules) left state.line state.shown now → place.registration ≡ (standing me).registration
+    → forgets (needs_of rules) state.poisoned ≡ false → left_count (needs_of rules) state.count given ≡ Some left
+    → Settles (needs_of rules) state.poisoned left state.line state.shown now → place.registration ≡ (standing me).registration
     → Answers (needs_of rules) places me is_sync call (updated standing me place) s now (Says true)
-release-gave rules places me is_sync call standing state s given left now place h gives taken some calm lefts g same =
+release-gave rules places me is_sync call standing state s given left now place h gives taken some loose lefts g same =
     let needs : Needs = needs_of rules in
     let m = h.mirrors in
     let middle : AbstractState = record state { count = left } in
-    let given_up : Object = record s { held = needs.held left } in
+    let given_up : Object = record s { held = held_where needs state.poisoned left } in
     let between : PlacesRepresent needs places (updated standing me place) middle given_up =
-    mirrors-held needs places standing state middle s (needs.held left) s.line me place m (sym (held-calm needs middle calm)) m.line refl same in
+    mirrors-held needs places standing state middle s (held_where needs state.poisoned left) s.line me place m refl m.line refl same in
     answers-by needs places me is_sync call (updated standing me place) s now (Says true) (given_back_by (record { state = settled given_up; reply = true }))
     (release-call rules me is_sync call s given gives taken
-    ∙ ap given_back_by (giving-back rules state s given left m.held calm h.bounded (release-takes rules call given gives taken some) lefts))
-    (settling rules places (updated standing me place) middle now given_up between calm (waiting-same places me standing state place h.seats same) g)
+    ∙ ap given_back_by (giving-back rules state s given left m.held loose h.bounded (release-takes rules call given gives taken some) lefts))
+    (settling rules places (updated standing me place) middle now given_up between (λ poisoned. (h.barren poisoned).1) (waiting-same places me standing state place h.seats same) g)
     refl
 
 pub release-nothing : (rules : Rules) (places me : ℕ) (is_sync : Bool) (call : WordCall) (standing : ℕ → Place) (state : AbstractState) (s : Object) (given : ℕ) (place : Place)
@@ -186,7 +229,7 @@ release-large (Permits bound) places me is_sync count standing state s place h t
     let bounded : state.count ≤ bound = h.bounded in
     let more : nat_le count state.count ≡ false = grind (arith, nat_tests) in
     let some : count == 0 ≡ false = grind (arith, nat_tests) in
-    release-nothing (Permits bound) places me is_sync (Release count) standing state s count place h refl refl (λ semaphore. some) (λ calm. rw more refl) same
+    release-nothing (Permits bound) places me is_sync (Release count) standing state s count place h refl refl (λ semaphore. some) (λ loose. rw more refl) same
 release-large Modes places me is_sync count standing state s place h taken large same = absurd (cc)
 
 -- a release of nothing

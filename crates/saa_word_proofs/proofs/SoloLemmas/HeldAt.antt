@@ -4,17 +4,19 @@ use Rattle.std.proofs.lemmas.Bool.{cases_Bool}
 use Rattle.std.proofs.lemmas.Bool.Decides.{nat_tests}
 use Rattle.saa_core_spec.specs.declared.request.Request.{Request}
 use Rattle.saa_core_spec.specs.declared.request.Request.TheVariants.{Exclusive as AskExclusive, Shared as AskShared, WaitExclusive, WaitShared, Permits as AskPermits, Enter, Arrive}
-use Rattle.saa_core_spec.specs.Held.{Held, OfLock, LockState, Free, Exclusive, Shared, Poisoned, plus, less, lock_fits, lock_plus, lock_less, held_lock, asks_too_much}
+use Rattle.saa_core_spec.specs.Held.{Held, OfLock, OfShutSemaphore, LockState, fits, Free, Exclusive, Shared, Poisoned, plus, less, lock_fits, lock_plus, lock_less, held_lock, asks_too_much}
 use Rattle.saa_core_spec.specs.Object.{Object}
 use Rattle.saa_core_spec.specs.Polling.{is_for_nothing}
 use Rattle.saa_core_spec.specs.Asking.{granted_at_once, answer_in as answer_when}
 use Rattle.saa_core_spec.proofs.Counts.{same_number}
-use Rattle.saa_core_words.specs.Words.{mode_of}
+use Rattle.saa_core_spec.proofs.Refusing.{fits-poisoned}
+use Rattle.saa_core_words.specs.Words.{mode_of, permits_of}
 use Rattle.saa_word_steps.specs.declared.rules.Rules.{Rules}
 use Rattle.saa_word_steps.specs.declared.rules.Rules.TheVariants.{Permits, Modes}
-use Rattle.saa_word_steps.specs.Needs.{Needs, counted, fits_count, left_count, lock_at, lock_needs, mode_takes, needs_of}
+use Rattle.saa_word_steps.specs.Needs.{Needs, counted, fits_count, forgets, left_count, lock_at, lock_needs, mode_takes, needs_of, permit_needs}
+use Rattle.saa_word_steps.proofs.Giving.{calm-loose}
 use Rattle.saa_word_steps.specs.AbstractState.{AbstractState}
-use Rattle.saa_word_proofs.specs.Represents.{held_at}
+use Rattle.saa_word_proofs.specs.Represents.{held_at, held_where, refusing}
 
 -- Grants
 
@@ -151,9 +153,54 @@ less-at (Permits bound) count request bounded =
     ]
 less-at Modes count request bounded = less-lock count (mode_of request) bounded
 
--- a poisoned lock has nothing to give back
-pub less-poisoned : (request : Request) → less (OfLock Poisoned) request ≡ None
-less-poisoned request = refl
+-- what is left of what is held, where every request is refused, too: a lock has forgotten it then
+pub less-where : (rules : Rules) (poisoned : Bool) (count request left : ℕ) → forgets (needs_of rules) poisoned ≡ false → count ≤ (needs_of rules).top
+    → left_count (needs_of rules) count request ≡ Some left
+    → less (held_where (needs_of rules) poisoned count) ((needs_of rules).read request) ≡ Some (held_where (needs_of rules) poisoned left)
+less-where rules false count request left loose bounded gives = less-at rules count request bounded ∙ ap (held_of (needs_of rules)) gives
+less-where (Permits bound) true count request left loose bounded gives =
+    elim (cases_Bool (nat_le request count)) [
+      | inl enough ↦
+          let now : left_count (permit_needs bound) count request ≡ Some (count - request) = rw enough refl in
+          let both : Some (count - request) ≡ Some left = sym now ∙ gives in
+          let same : count - request ≡ left = cc in
+          rw enough (ap (λ (n : ℕ). Some (OfShutSemaphore bound n)) same)
+      | inr more ↦
+          let none : left_count (permit_needs bound) count request ≡ None = rw more refl in
+          absurd (cc)
+    ]
+less-where Modes true count request left loose bounded gives = absurd (cc)
+
+pub less-none : (rules : Rules) (poisoned : Bool) (count request : ℕ) → count ≤ (needs_of rules).top
+    → (forgets (needs_of rules) poisoned ≡ false → left_count (needs_of rules) count request ≡ None)
+    → less (held_where (needs_of rules) poisoned count) ((needs_of rules).read request) ≡ None
+less-none rules false count request bounded none =
+    less-at rules count request bounded ∙ ap (held_of (needs_of rules)) (none (calm-loose (needs_of rules) false refl))
+less-none (Permits bound) true count request bounded none =
+    elim (cases_Bool (nat_le request count)) [
+      | inl enough ↦
+          let now : left_count (permit_needs bound) count request ≡ Some (count - request) = rw enough refl in
+          let wrong : Some (count - request) ≡ None = sym now ∙ none refl in
+          absurd (cc)
+      | inr more ↦ rw more refl
+    ]
+less-none Modes true count request bounded none = refl
+
+-- nothing fits where every request is refused, and an ask is answered so at once
+pub refusing-unfit : (needs : Needs) (count : ℕ) (request : Request) → fits (refusing needs count) request ≡ false
+refusing-unfit needs count request =
+    elim (cases_Bool needs.is_lock) [
+      | inl lock ↦ rw lock (fits-poisoned request)
+      | inr semaphore ↦ rw semaphore refl
+    ]
+
+pub refusing-answers : (needs : Needs) (s : Object) (count : ℕ) (request : Request)
+    → answer_when s (refusing needs count) request ≡ Some (record { state = s; reply = 2 })
+refusing-answers needs s count request =
+    elim (cases_Bool needs.is_lock) [
+      | inl lock ↦ rw lock refl
+      | inr semaphore ↦ rw semaphore refl
+    ]
 
 -- what takes something is for something
 pub for-something : (rules : Rules) (request : ℕ) → (needs_of rules).takes request == 0 ≡ false
@@ -167,10 +214,14 @@ for-something Modes (suc (suc (suc more))) some = refl
 -- Asks
 
 -- whether a request is for more than there is: of a semaphore alone
-pub asks-at : (rules : Rules) (state : AbstractState) (request : ℕ) → ((needs_of rules).is_lock ≡ false → state.poisoned ≡ false)
+pub asks-at : (rules : Rules) (state : AbstractState) (request : ℕ)
     → asks_too_much (held_at (needs_of rules) state) ((needs_of rules).read request) ≡ (not (needs_of rules).is_lock && nat_lt (needs_of rules).top request)
-asks-at (Permits bound) state request calm = rw (calm refl) refl
-asks-at Modes state request calm = either state.poisoned request
+asks-at (Permits bound) state request = either state.poisoned
+  where
+    either : (poisoned : Bool) → asks_too_much (held_where (permit_needs bound) poisoned state.count) (permits_of request) ≡ nat_lt bound request
+    either true = refl
+    either false = refl
+asks-at Modes state request = either state.poisoned request
   where
     either : (poisoned : Bool) (request : ℕ) → asks_too_much (if poisoned then OfLock Poisoned else OfLock (lock_at state.count)) (mode_of request) ≡ false
     either true request = refl
@@ -194,5 +245,5 @@ answer-at Modes state s request calm =
 pub held-calm : (needs : Needs) (state : AbstractState) → state.poisoned ≡ false → held_at needs state ≡ needs.held state.count
 held-calm needs state calm = rw calm refl
 
-pub held-poisoned : (needs : Needs) (state : AbstractState) → state.poisoned ≡ true → held_at needs state ≡ OfLock Poisoned
+pub held-poisoned : (needs : Needs) (state : AbstractState) → state.poisoned ≡ true → held_at needs state ≡ refusing needs state.count
 held-poisoned needs state poisoned = rw poisoned refl

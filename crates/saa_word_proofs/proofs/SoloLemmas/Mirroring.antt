@@ -11,7 +11,7 @@ use Rattle.saa_word_steps.specs.declared.place.Registration.{Registration}
 use Rattle.saa_word_steps.specs.declared.place.Registration.TheVariants.{Idle as IsIdle, AnsweredAtOnce, Queued}
 use Rattle.saa_word_steps.specs.declared.call.Answer.{Answer}
 use Rattle.saa_word_steps.specs.declared.call.WordCall.{WordCall}
-use Rattle.saa_word_steps.specs.Needs.{Needs}
+use Rattle.saa_word_steps.specs.Needs.{Needs, kept}
 use Rattle.saa_word_steps.specs.AbstractState.{AbstractState, IsFront, IsSettledAt, takes_of, answered_with, is_in, with_answer}
 use Rattle.saa_word_proofs.specs.Refinement.{AreSeats}
 use Rattle.saa_word_proofs.specs.Rows.{updated}
@@ -29,11 +29,11 @@ pub record Starts (needs : Needs) (places me : ℕ) (standing : ℕ → Place) (
   pub seats : AreSeats places standing state
   pub paid : (place : ℕ) → state.due place ≡ None
   pub bounded : state.count ≤ needs.top
-  pub barren : state.poisoned ≡ true → (state.count ≡ 0) × (state.line ≡ []) × (needs.is_lock ≡ true)
+  pub barren : state.poisoned ≡ true → (state.count ≡ kept needs state.count) × (state.line ≡ [])
 
--- A front of a line is granted at a count and shown, and what is left of the line is settled behind it
-pub record Settles (needs : Needs) (held : ℕ) (line : List (ℕ × ℕ)) (before : ℕ → Option ℕ) (now : AbstractState) : Type 0 where
-  pub calm : now.poisoned ≡ false
+-- A front of a line is granted at a count and shown, and what is left of the line is settled behind it; whether every request is refused stays as it was
+pub record Settles (needs : Needs) (poisoned : Bool) (held : ℕ) (line : List (ℕ × ℕ)) (before : ℕ → Option ℕ) (now : AbstractState) : Type 0 where
+  pub same : now.poisoned ≡ poisoned
   pub front : List (ℕ × ℕ)
   pub parts : line ≡ front ++ now.line
   pub fits : IsFront needs held front
@@ -54,15 +54,6 @@ answers-by needs places me is_sync call standing s state answer after is left sa
   mirrors = subst (λ (a : After Answer). PlacesRepresent needs places standing state a.state) (sym is) left;
   same = ap (λ (a : After Answer). a.reply) is ∙ says;
 }
-
--- a semaphore isn't poisoned
-pub calm-semaphore : (needs : Needs) (places me : ℕ) (standing : ℕ → Place) (state : AbstractState) (s : Object) → Starts needs places me standing state s
-    → needs.is_lock ≡ false → state.poisoned ≡ false
-calm-semaphore needs places me standing state s h semaphore =
-    elim (cases_Bool state.poisoned) [
-      | inl poisoned ↦ let wrong : false ≡ true = sym semaphore ∙ (h.barren poisoned).2 in absurd (cc)
-      | inr calm ↦ calm
-    ]
 
 -- Changes
 

@@ -1,11 +1,10 @@
 -- The registration that a call leaves: what it is behind each event that the call's answer names.
 use Rattle.std.proofs.Common.{◌≡◌, ℕ, ◌+◌, ◌%◌, Bool, true, false, not, ◌&&◌, ◌||◌, List, [], ◌∷◌, ◌++◌, ◌==◌, Option, Some, None, if◌then◌else◌, refl, sym, subst, inl, inr}
 use Rattle.std.proofs.lemmas.Bool.{cases_Bool}
-use Rattle.saa_core_spec.specs.Held.{Exclusive}
 use Rattle.saa_core_spec.specs.Values.{granted_value}
 use Rattle.saa_core_words.specs.declared.word.Word.{Word}
 use Rattle.saa_core_words.specs.declared.line_word.LineWord.{LineWord}
-use Rattle.saa_core_words.specs.Words.{count_bits, word_number, word_of, line_word_of, answer_of, lock_count}
+use Rattle.saa_core_words.specs.Words.{count_bits, word_number, word_of, line_word_of, answer_of}
 use Rattle.saa_word_steps.specs.declared.place.Place.{Place}
 use Rattle.saa_word_steps.specs.declared.place.ReleaseAmount.{ReleaseAmount}
 use Rattle.saa_word_steps.specs.declared.place.ReleaseAmount.TheVariants.{Requested, AllButAShare}
@@ -20,7 +19,7 @@ use Rattle.saa_word_steps.specs.declared.place.PollMode.TheVariants.{Tries, Awai
 use Rattle.saa_word_steps.specs.declared.place.Stage.{Stage}
 use Rattle.saa_word_steps.specs.declared.place.Stage.TheVariants.{Quiet, ReadLoad, AcquireLoad, AcquireExchange, Prepare, Join, ReleaseLoad, ReleaseExchange, BackLoad, BackStore, Forward, CutToClose, CutForRetry, Close, Empty, Retry, ShowLoad, ShowStore, Take, FlagLoad, FlagExchange, LookLoad, LookStore, Unlink, DropTail, PoisonLoad, PoisonExchange, Clear}
 use Rattle.saa_word_steps.specs.declared.call.WordCall.{WordCall}
-use Rattle.saa_word_steps.specs.Needs.{Needs, fits_count}
+use Rattle.saa_word_steps.specs.Needs.{Needs, fits_count, forgets, may_refuse}
 use Rattle.saa_word_steps.specs.declared.event.Event.{Event}
 use Rattle.saa_word_steps.specs.declared.event.Event.TheVariants.{Acquired}
 use Rattle.saa_word_steps.specs.Steps.{left_from, next_of, decided, granted, given, given_to, gave_nothing, finished, taken_answer, looked_at, closing, shown_all, flagging, poisoning}
@@ -92,7 +91,7 @@ nothing-leaves AllButAShare asks was = refl
 
 given-left : (needs : Needs) (asks : Option Ask) (place : Place) (what : ReleaseAmount) (seen : Word)
     → IsLeft place.registration (registration_after (given_events needs what seen) asks place.registration) (given needs place what seen)
-given-left needs asks place what seen = by-poison seen.is_poisoned
+given-left needs asks place what seen = by-poison (forgets needs seen.is_poisoned)
   where
     nothing : IsLeft place.registration (registration_after (gave_not what ∷ []) asks place.registration) (gave_nothing place place.back)
     nothing =
@@ -180,10 +179,10 @@ flagging-left place seen =
 
 -- Poison
 
-poisoning-left : (asks : Option Ask) (place : Place) (seen : Word)
-    → IsLeft place.registration (registration_after (poisoning_events seen) asks place.registration) (poisoning place seen)
-poisoning-left asks place seen =
-    elim (cases_Bool (seen.is_poisoned || not (seen.count == lock_count Exclusive))) [
+poisoning-left : (needs : Needs) (asks : Option Ask) (place : Place) (seen : Word)
+    → IsLeft place.registration (registration_after (poisoning_events needs seen) asks place.registration) (poisoning needs place seen)
+poisoning-left needs asks place seen =
+    elim (cases_Bool (seen.is_poisoned || not (may_refuse needs seen.count))) [
       | inl other ↦ rw other (refl, refl)
       | inr owned ↦
           elim (cases_Bool seen.is_flagged) [
@@ -286,7 +285,7 @@ left-next needs call registered me place (DropTail seen older) found events h =
           ]
       | inr missed ↦ rw missed refl
     ]
-left-next needs call registered me place PoisonLoad found events h = poisoning-left (asked_by call) place (word_of count_bits found)
+left-next needs call registered me place PoisonLoad found events h = poisoning-left needs (asked_by call) place (word_of count_bits found)
 left-next needs call registered me place (PoisonExchange seen) found events h =
     elim (cases_Bool (found == word_number count_bits seen)) [
       | inl hit ↦
@@ -294,7 +293,7 @@ left-next needs call registered me place (PoisonExchange seen) found events h =
             | inl nobody ↦ rw (hit, nobody) (finished-left place place.back)
             | inr some ↦ rw (hit, some) refl
           ]
-      | inr missed ↦ rw missed (poisoning-left (asked_by call) place (word_of count_bits found))
+      | inr missed ↦ rw missed (poisoning-left needs (asked_by call) place (word_of count_bits found))
     ]
 left-next needs call registered me place Clear found events h =
     elim (cases_Bool (found == word_number count_bits poisoned_word)) [

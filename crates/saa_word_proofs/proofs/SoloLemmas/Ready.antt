@@ -3,7 +3,7 @@ use Rattle.std.proofs.Common.{◌≡◌, ℕ, ◌<◌, true, refl, false, ◌==�
 use Rattle.std.proofs.lemmas.Bool.{cases_Bool}
 use Rattle.saa_word_steps.specs.declared.call.Answer.TheVariants.{Bool as Says}
 use Rattle.saa_word_steps.specs.declared.call.WordCall.{WordCall}
-use Rattle.saa_word_steps.specs.declared.call.WordCall.TheVariants.{Try, Register, Release, Available, TryLock, TryShare, RegisterMode, ReleaseLock, ReleaseShare, Downgrade, PoisonLock, ClearPoison, IsFree, IsLocked, IsShared, IsPoisoned, TryPoll, Poll, Cancel}
+use Rattle.saa_word_steps.specs.declared.call.WordCall.TheVariants.{Try, Register, Release, Available, Shut, IsShut, TryLock, TryShare, RegisterMode, ReleaseLock, ReleaseShare, Downgrade, PoisonLock, ClearPoison, IsFree, IsLocked, IsShared, IsPoisoned, TryPoll, Poll, Cancel}
 use Rattle.saa_word_steps.specs.declared.place.Place.{Place}
 use Rattle.saa_word_steps.specs.declared.place.Next.TheVariants.{Done}
 use Rattle.saa_word_steps.specs.declared.place.Registration.{Registration}
@@ -64,6 +64,8 @@ started-ready-anyone needs places me place (Release count) here =
           ]
     ]
 started-ready-anyone needs places me place Available here = (tt, omega arith)
+started-ready-anyone needs places me place Shut here = (tt, omega arith)
+started-ready-anyone needs places me place IsShut here = (tt, omega arith)
 started-ready-anyone needs places me place TryLock here = (tt, omega arith)
 started-ready-anyone needs places me place TryShare here = (tt, omega arith)
 started-ready-anyone needs places me place (RegisterMode mode) here = registering-ready needs places me place (mode_number mode) place.registration

@@ -3,7 +3,7 @@ use Rattle.std.proofs.Common.{◌≡◌, ℕ, true, false, ◌==◌, nat_lt, if�
 use Rattle.std.proofs.lemmas.Bool.{cases_Bool}
 use Rattle.saa_word_steps.specs.declared.call.Answer.TheVariants.{Bool as Says}
 use Rattle.saa_word_steps.specs.declared.call.WordCall.{WordCall}
-use Rattle.saa_word_steps.specs.declared.call.WordCall.TheVariants.{Try, Register, Release, Available, TryLock, TryShare, RegisterMode, ReleaseLock, ReleaseShare, Downgrade, PoisonLock, ClearPoison, IsFree, IsLocked, IsShared, IsPoisoned, TryPoll, Poll, Cancel}
+use Rattle.saa_word_steps.specs.declared.call.WordCall.TheVariants.{Try, Register, Release, Available, Shut, IsShut, TryLock, TryShare, RegisterMode, ReleaseLock, ReleaseShare, Downgrade, PoisonLock, ClearPoison, IsFree, IsLocked, IsShared, IsPoisoned, TryPoll, Poll, Cancel}
 use Rattle.saa_word_steps.specs.declared.place.Place.{Place}
 use Rattle.saa_word_steps.specs.declared.place.Next.TheVariants.{Done}
 use Rattle.saa_word_steps.specs.declared.place.Registration.{Registration}
@@ -70,6 +70,8 @@ started-as needs place (Release count) quiet =
           ]
     ]
 started-as needs place Available quiet = refl
+started-as needs place Shut quiet = refl
+started-as needs place IsShut quiet = refl
 started-as needs place TryLock quiet = refl
 started-as needs place TryShare quiet = refl
 started-as needs place (RegisterMode mode) quiet = registering place (mode_number mode) place.registration refl quiet

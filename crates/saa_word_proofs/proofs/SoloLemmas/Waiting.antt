@@ -162,7 +162,7 @@ moves-first needs wide places me call now state s quiet here taken place is = re
       (starts needs wide places now.row now.standing state me call here s (quiet me) taken);
   names = [];
   under = subst (λ (p : Place). IsUnder needs call (now.standing me).registration p.back p.stage []) (sym (updated-at now.standing me place))
-      (subst (λ (next : Next). IsBegun needs call (now.standing me).registration next) is (call-begun needs (now.standing me) call (quiet me)));
+      (subst (λ (next : Next). IsBegun needs call (now.standing me).registration next) is (call-begun needs (now.standing me) call (quiet me) taken));
   quiet = λ other apart. ap (λ (p : Place). p.stage) (updated-other now.standing me place other apart) ∙ quiet other;
 }
 

@@ -15,7 +15,7 @@ use Rattle.saa_word_steps.specs.declared.place.Next.{Next}
 use Rattle.saa_word_steps.specs.declared.place.Next.TheVariants.{Going, Waits, Done}
 use Rattle.saa_word_steps.specs.declared.place.Stage.{Stage}
 use Rattle.saa_word_steps.specs.declared.place.Stage.TheVariants.{Quiet, ReadLoad, AcquireLoad, AcquireExchange, Prepare, Join, ReleaseLoad, ReleaseExchange, BackLoad, BackStore, Forward, CutToClose, CutForRetry, Close, Empty, Retry, ShowLoad, ShowStore, Take, FlagLoad, FlagExchange, LookLoad, LookStore, Unlink, DropTail, PoisonLoad, PoisonExchange, Clear}
-use Rattle.saa_word_steps.specs.Needs.{Needs, AreNeeds, fits_count}
+use Rattle.saa_word_steps.specs.Needs.{Needs, AreNeeds, fits_count, forgets}
 use Rattle.saa_word_steps.specs.AbstractState.{AbstractState}
 use Rattle.saa_word_steps.specs.Steps.{left_from, word_at, operation_of, next_of, finished, granted, decided, gave_nothing, given_to, given, shown_all}
 use Rattle.saa_word_proofs.specs.Refinement.{Invariant}
@@ -62,7 +62,7 @@ nothing-goes place (Takes request) = refl
 
 given-goes : (needs : Needs) (place : Place) (what : ReleaseAmount) (seen : Word) → is_waiting (given needs place what seen) ≡ false
 given-goes needs place what seen =
-    neither seen.is_poisoned _ _ (nothing-goes place place.back) (left-goes (left_from needs seen.count what))
+    neither (forgets needs seen.is_poisoned) _ _ (nothing-goes place place.back) (left-goes (left_from needs seen.count what))
   where
     left-goes : (left : Option ℕ) → is_waiting (given_to place what seen left) ≡ false
     left-goes None = nothing-goes place place.back

@@ -74,7 +74,7 @@ lowered needs lawful wide places row standing state me s (Unlink seen newer line
 lowered needs lawful wide places row standing state me s (DropTail seen older) at busy = lower-DropTail needs places row standing state me s seen older at
 lowered needs lawful wide places row standing state me s PoisonLoad at busy =
     onto-load places row 0 (step_bound places row (standing me).back PoisonLoad) (next_of needs me (standing me) PoisonLoad (row 0))
-    (poisoning-lower (way places row) (row 0) (step_bound places row (standing me).back PoisonLoad) (standing me) (word_of count_bits (row 0))
+    (poisoning-lower (way places row) (row 0) (step_bound places row (standing me).back PoisonLoad) needs (standing me) (word_of count_bits (row 0))
     (found-seen (row 0) s.main.whole) (omega arith))
 lowered needs lawful wide places row standing state me s (PoisonExchange seen) at busy = lower-PoisonExchange needs places row standing state me s seen at
 lowered needs lawful wide places row standing state me s Clear at busy = (refl, omega arith)

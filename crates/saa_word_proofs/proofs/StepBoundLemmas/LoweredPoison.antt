@@ -1,4 +1,4 @@
--- Each step of a place that poisons a lock lowers its step bound.
+-- Each step of a place that poisons a lock, or shuts a semaphore, lowers its step bound.
 use Rattle.std.proofs.Common.{◌≡◌, ℕ, ◌+◌, ◌*◌, ◌==◌, if◌then◌else◌, arith, inl, inr}
 use Rattle.std.proofs.lemmas.Bool.{cases_Bool}
 use Rattle.saa_core_spec.specs.Values.{poisoned_value}
@@ -10,7 +10,7 @@ use Rattle.saa_word_steps.specs.declared.place.Stage.TheVariants.{ShowLoad, Pois
 use Rattle.saa_word_steps.specs.Needs.{Needs}
 use Rattle.saa_word_steps.specs.AbstractState.{AbstractState}
 use Rattle.saa_word_steps.specs.Steps.{finished, going, poisoning}
-use Rattle.saa_word_steps.specs.Readings.{poisoned_word}
+use Rattle.saa_word_steps.specs.Readings.{refusing_word}
 use Rattle.saa_word_proofs.specs.Refinement.{Invariant}
 use Rattle.saa_word_proofs.specs.StepBound.{way, waiting, IsLowered}
 use Rattle.saa_word_proofs.proofs.StepBoundLemmas.Bounds.{end-none}
@@ -22,19 +22,19 @@ pub lower-PoisonExchange : (needs : Needs) (places : ℕ) (row : ℕ → ℕ) (s
 lower-PoisonExchange needs places row standing state me s seen at =
     let small = ranged-at needs places row standing state me s (PoisonExchange seen) at in
     let alone = alone-at needs places row standing state me s (PoisonExchange seen) at in
-    let ends = end-none (standing me).back (waiting (way places row) (word_number count_bits poisoned_word)) alone.1 in
-    exchange-lower places row seen poisoned_word (2 * waiting (way places row) (row 0) + 1) (2 * waiting (way places row) (row 0) + 2)
+    let ends = end-none (standing me).back (waiting (way places row) (word_number count_bits (refusing_word needs seen))) alone.0 in
+    exchange-lower places row seen (refusing_word needs seen) (2 * waiting (way places row) (row 0) + 1) (2 * waiting (way places row) (row 0) + 2)
     (if seen.tail == 0 then finished (standing me) (standing me).back else going (standing me) (ShowLoad seen.tail poisoned_value Ends))
-    (poisoning (standing me) (word_of count_bits (row 0)))
+    (poisoning needs (standing me) (word_of count_bits (row 0)))
     (λ same.
-    let rest = waits-seen (way places row) (row 0) seen small alone.2 same in
+    let rest = waits-seen (way places row) (row 0) seen small alone.1 same in
     elim (cases_Bool (seen.tail == 0)) [
       | inl nobody ↦
           rw nobody
-          (finished-lower (way places row) (word_number count_bits poisoned_word) (2 * waiting (way places row) (row 0) + 1) (standing me)
+          (finished-lower (way places row) (word_number count_bits (refusing_word needs seen)) (2 * waiting (way places row) (row 0) + 1) (standing me)
           (standing me).back (omega (arith, ends)))
       | inr some ↦ rw some (omega (arith, rest, ends))
     ])
     (λ differs.
-    poisoning-lower (way places row) (row 0) (2 * waiting (way places row) (row 0) + 2) (standing me) (word_of count_bits (row 0))
+    poisoning-lower (way places row) (row 0) (2 * waiting (way places row) (row 0) + 2) needs (standing me) (word_of count_bits (row 0))
     (found-seen (row 0) s.main.whole) (omega arith))

@@ -5,7 +5,7 @@ use Rattle.saa_core_spec.specs.Object.{one_if}
 use Rattle.saa_core_spec.proofs.Counts.{number_same}
 use Rattle.saa_core_words.specs.declared.word.Word.{Word}
 use Rattle.saa_core_words.specs.declared.line_word.LineWord.{LineWord}
-use Rattle.saa_core_words.specs.Words.{count_bits, word_number, word_of, lock_count}
+use Rattle.saa_core_words.specs.Words.{count_bits, word_number, word_of}
 use Rattle.saa_core_words.proofs.Words.{word-read}
 use Rattle.saa_word_steps.specs.declared.place.Place.{Place}
 use Rattle.saa_word_steps.specs.declared.place.ReleaseAmount.{ReleaseAmount}
@@ -20,8 +20,7 @@ use Rattle.saa_word_steps.specs.declared.place.Next.{Next}
 use Rattle.saa_word_steps.specs.declared.place.Next.TheVariants.{Waits}
 use Rattle.saa_word_steps.specs.declared.place.Stage.{Stage}
 use Rattle.saa_word_steps.specs.declared.place.Stage.TheVariants.{Prepare, AcquireExchange, Forward, Take, FlagExchange, LookLoad, PoisonExchange}
-use Rattle.saa_word_steps.specs.Needs.{Needs, fits_count}
-use Rattle.saa_core_spec.specs.Held.{Exclusive}
+use Rattle.saa_word_steps.specs.Needs.{Needs, fits_count, forgets, may_refuse}
 use Rattle.saa_core_spec.specs.Values.{granted_value}
 use Rattle.saa_word_steps.specs.AbstractState.{AbstractState}
 use Rattle.saa_word_steps.specs.Steps.{left_from, IsRanged, IsSmall, exchanged, going, done, finished, granted, found_poisoned, decided, gave_nothing, given_to, given, walking, shown_all, dropped, taken_answer, looked_at, flagging, looking, looked_for, poisoning}
@@ -151,8 +150,9 @@ granted-lower ways number before needs place ask some =
     ]
 
 -- a registration at a poisoned lock is done
-poisoned-lower : (ways : ℕ → ℕ) (number before : ℕ) (place : Place) (ask : Ask) → 0 < before → IsLower ways number before (found_poisoned place ask)
-poisoned-lower ways number before place ask some =
+poisoned-lower : (ways : ℕ → ℕ) (number before : ℕ) (needs : Needs) (place : Place) (ask : Ask) → 0 < before
+    → IsLower ways number before (found_poisoned needs place ask)
+poisoned-lower ways number before needs place ask some =
     elim (cases_Bool ask.joins) [
       | inl joins ↦ rw joins (refl, some)
       | inr tries ↦ rw tries (refl, some)
@@ -161,11 +161,11 @@ poisoned-lower ways number before place ask some =
 pub decided-lower : (ways : ℕ → ℕ) (number before : ℕ) (needs : Needs) (place : Place) (ask : Ask) (seen : Word)
     → number == word_number count_bits seen ≡ true → 2 < before → IsLower ways number before (decided needs place ask seen)
 decided-lower ways number before needs place ask seen fresh more =
-    either-lower ways number before seen.is_poisoned (found_poisoned place ask)
+    either-lower ways number before seen.is_poisoned (found_poisoned needs place ask)
     (if not (seen.tail == 0) || not (fits_count needs seen.count ask.request)
     then (if ask.joins then going place (Prepare ask.request seen) else done place (tried_answer needs false))
     else (if needs.takes ask.request == 0 then granted needs place ask else going place (AcquireExchange ask seen)))
-    (λ poisoned. poisoned-lower ways number before place ask (omega (arith, more)))
+    (λ poisoned. poisoned-lower ways number before needs place ask (omega (arith, more)))
     (λ sound. elim (cases_Bool (not (seen.tail == 0) || not (fits_count needs seen.count ask.request))) [
       | inl waits ↦
           elim (cases_Bool ask.joins) [
@@ -195,7 +195,7 @@ pub given-lower : (ways : ℕ → ℕ) (number before : ℕ) (needs : Needs) (pl
     → number == word_number count_bits seen ≡ true → 5 * waiting ways number + 3 < before
     → IsLower ways number before (given needs place what seen)
 given-lower ways number before needs place what seen fresh more =
-    either-lower ways number before seen.is_poisoned (gave_nothing place place.back) (given_to place what seen (left_from needs seen.count what))
+    either-lower ways number before (forgets needs seen.is_poisoned) (gave_nothing place place.back) (given_to place what seen (left_from needs seen.count what))
     (λ poisoned. gave-lower ways number before place place.back (omega (arith, more)))
     (λ sound. given_to-lower ways number before place what seen (left_from needs seen.count what) fresh more)
 
@@ -340,11 +340,11 @@ looked_for-lower ways number me place seen current newer previous line older =
           ))
     ]
 
--- a call that poisons a lock
-pub poisoning-lower : (ways : ℕ → ℕ) (number before : ℕ) (place : Place) (seen : Word) → number == word_number count_bits seen ≡ true
-    → 2 * waiting ways number + 1 < before → IsLower ways number before (poisoning place seen)
-poisoning-lower ways number before place seen fresh more =
-    elim (cases_Bool (seen.is_poisoned || not (seen.count == lock_count Exclusive))) [
+-- a call that poisons a lock, or shuts a semaphore
+pub poisoning-lower : (ways : ℕ → ℕ) (number before : ℕ) (needs : Needs) (place : Place) (seen : Word) → number == word_number count_bits seen ≡ true
+    → 2 * waiting ways number + 1 < before → IsLower ways number before (poisoning needs place seen)
+poisoning-lower ways number before needs place seen fresh more =
+    elim (cases_Bool (seen.is_poisoned || not (may_refuse needs seen.count))) [
       | inl refused ↦ rw refused (refl, omega (arith, more))
       | inr alone ↦
           rw alone

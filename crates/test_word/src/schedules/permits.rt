@@ -2,17 +2,20 @@
 
 use crate::schedules::Row::{Called, Moved};
 use crate::schedules::{
-    ASK, BUSY, FLAG, GOING, IDLE, JOIN, Made, NO, NOT_REGISTERED, PREPARE, PUBLISH, RELEASE, SHOW,
-    Story, TAIL, TAKE, TAKEN, UNIT, UNLINK, WAITS, WALK, YES,
+    ASK, BUSY, FLAG, GOING, IDLE, JOIN, Made, NO, NOT_REGISTERED, POISON, PREPARE, PUBLISH,
+    RELEASE, SHOW, Story, TAIL, TAKE, TAKEN, TOLD_POISONED, UNIT, UNLINK, WAITS, WALK, YES,
 };
 use saa_word::machine::{Answer, Move, Step, WordCall};
+
+// What a poll is told where the semaphore was shut.
+const CLOSED: Step = TOLD_POISONED;
 
 // All permits are there, or none is.
 const WITH_ALL: Made = Made::Semaphore(0);
 
 const WITH_NONE: Made = Made::Semaphore(63);
 
-pub static STORIES: [Story; 11] = [
+pub static STORIES: [Story; 13] = [
     // Permits 63 out, place 0 waits for 10, place 1 gives 5 back and is about to publish; then place 2 gives 5 back in place.
     // A main word is 63 more than 262,144 where place 0 waits, 5 less with each release, and 65,536 more with the flag set.
     Story {
@@ -256,6 +259,81 @@ pub static STORIES: [Story; 11] = [
             Called(1, WordCall::Cancel, UNIT, 262_145),
             Called(0, WordCall::Cancel, UNIT, 1),
             Called(0, WordCall::Cancel, UNIT, 1),
+        ],
+    },
+    // Permits 60 out; places 0 and 1 wait for 10 and 2. Place 2 shuts the semaphore: one exchange empties the queue and keeps the 60, and then each
+    // waiter is shown that. A main word is 524,348 with the tail at place 1, and 131,072 more than what is out once it is shut.
+    Story {
+        name: "a shut answers each waiter and keeps what is out",
+        made: Made::Semaphore(60),
+        places: 3,
+        rows: &[
+            Called(0, WordCall::Register(10), YES, 262_204),
+            Called(1, WordCall::Register(2), YES, 524_348),
+            Called(2, WordCall::IsShut, NO, 524_348),
+            Moved(Move::Start(2, WordCall::Shut), GOING, POISON, 524_348),
+            Moved(Move::Go(2), GOING, POISON, 524_348),
+            Moved(Move::Go(2), GOING, SHOW, 131_132),
+            Moved(Move::Go(2), GOING, SHOW, 131_132),
+            Moved(Move::Go(2), GOING, SHOW, 131_132),
+            Called(1, WordCall::Poll, CLOSED, 131_132),
+            Moved(Move::Start(0, WordCall::Poll), GOING, TAKE, 131_132),
+            Moved(Move::Go(0), WAITS, TAKE, 131_132),
+            Moved(Move::Go(2), GOING, SHOW, 131_132),
+            Moved(Move::Go(2), YES, None, 131_132),
+            Moved(Move::Go(0), CLOSED, None, 131_132),
+            Called(2, WordCall::Shut, NO, 131_132),
+            Called(2, WordCall::IsShut, YES, 131_132),
+            Called(2, WordCall::Try(1), NO, 131_132),
+            Called(2, WordCall::Try(0), NO, 131_132),
+            Called(2, WordCall::Register(1), YES, 131_132),
+            Called(2, WordCall::Poll, CLOSED, 131_132),
+            Called(2, WordCall::Register(64), NO, 131_132),
+            Called(2, WordCall::Register(0), YES, 131_132),
+            Called(2, WordCall::Cancel, UNIT, 131_132),
+            Called(
+                2,
+                WordCall::Available,
+                Step::Done(Answer::Number(3)),
+                131_132,
+            ),
+            Called(1, WordCall::Release(61), NO, 131_132),
+            Called(1, WordCall::Release(59), YES, 131_073),
+            Called(0, WordCall::Release(1), YES, 131_072),
+            Called(0, WordCall::Release(1), NO, 131_072),
+            Called(0, WordCall::Try(63), NO, 131_072),
+        ],
+    },
+    // Permits 63 out; place 0 was granted 4 at once, and place 1 waits for 10. Place 2 gives 5 back, and walks the queue; a shut waits for it. Then place 0
+    // cancels, and gives its 4 back at the shut semaphore.
+    Story {
+        name: "a shut waits for the flag's holder",
+        made: Made::Semaphore(59),
+        places: 4,
+        rows: &[
+            Called(0, WordCall::Register(4), YES, 63),
+            Called(1, WordCall::Register(10), YES, 524_351),
+            Moved(
+                Move::Start(2, WordCall::Release(5)),
+                GOING,
+                RELEASE,
+                524_351,
+            ),
+            Moved(Move::Go(2), GOING, RELEASE, 524_351),
+            Moved(Move::Go(2), GOING, WALK, 589_882),
+            Moved(Move::Start(3, WordCall::Shut), GOING, POISON, 589_882),
+            Moved(Move::Go(3), WAITS, POISON, 589_882),
+            Moved(Move::Go(2), GOING, WALK, 589_882),
+            Moved(Move::Go(2), GOING, WALK, 589_882),
+            Moved(Move::Go(2), GOING, PUBLISH, 589_882),
+            Moved(Move::Go(3), WAITS, POISON, 589_882),
+            Moved(Move::Go(2), YES, None, 524_346),
+            Moved(Move::Go(3), GOING, POISON, 524_346),
+            Moved(Move::Go(3), GOING, SHOW, 131_130),
+            Moved(Move::Go(3), GOING, SHOW, 131_130),
+            Moved(Move::Go(3), YES, None, 131_130),
+            Called(1, WordCall::Poll, CLOSED, 131_130),
+            Called(0, WordCall::Cancel, UNIT, 131_126),
         ],
     },
 ];
