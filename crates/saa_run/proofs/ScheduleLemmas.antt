@@ -7,12 +7,12 @@ use Rattle.saa_word.specs.declared.moves.Step.{Step}
 use Rattle.saa_word.specs.declared.moves.Step.TheVariants.{Going}
 use Rattle.saa_word.specs.Machine.{State, is_lock}
 use Rattle.saa_word.specs.Moves.{gone}
-use Rattle.saa_run.specs.declared.schedule.said.Said.{Said}
-use Rattle.saa_run.specs.declared.schedule.said.Said.TheVariants.{Step as Did, At}
+use Rattle.saa_run.specs.declared.schedule.reply.ScheduleReply.{ScheduleReply}
+use Rattle.saa_run.specs.declared.schedule.reply.ScheduleReply.TheVariants.{Step as Did, At}
 use Rattle.saa_run.specs.declared.schedule.lines.ScheduleLine.{ScheduleLine}
 use Rattle.saa_run.specs.Schedules.{schedule_line_of}
 use Rattle.saa_run.specs.Scheduled.{answer_schedule, ended, goes_on, is_at, line_said, move_said, until_at}
-use Rattle.saa_run.specs.ScheduleSaid.{said_words}
+use Rattle.saa_run.specs.ScheduleReplies.{schedule_words}
 use Rattle.saa_run_text.specs.Text.{reply_line, with_front}
 use Rattle.saa_run_text.specs.Steps.{bad_at}
 
@@ -35,7 +35,7 @@ module _ (state after : State) (me : ℕ) (step : Step) (did : step ≡ (gone st
       rw test refl
 
   -- what is said of it
-  pub step-said : (said : Said) → said ≡ Did (is_lock after) step → said ≡ (move_said (gone state (Goes me))).said
+  pub step-said : (said : ScheduleReply) → said ≡ Did (is_lock after) step → said ≡ (move_said (gone state (Goes me))).said
   step-said said says = says ∙ ap (λ s. Did (is_lock after) s) did ∙ ap (λ m. Did (is_lock m) (gone state (Goes me)).step) left_as
 
   module _ (kind : Kind) (apart : is_at state me kind ≡ false) where
@@ -75,11 +75,11 @@ until-out zero state me kind none apart = rw apart refl
 until-out (suc more) state me kind none apart = absurd (omega arith)
 
 -- a good line is answered by what it says
-pub schedule-good : (number : ℕ) (state after : State) (line : List ℕ) (good : ScheduleLine) (said : Said) (others : List (List ℕ))
+pub schedule-good : (number : ℕ) (state after : State) (line : List ℕ) (good : ScheduleLine) (said : ScheduleReply) (others : List (List ℕ))
     → schedule_line_of (is_lock state) (length state.places) line ≡ Some good → said ≡ (line_said state good).said → after ≡ (line_said state good).machine
-    → answer_schedule number state (line ∷ others) ≡ with_front (reply_line (said_words said)) (answer_schedule (number + 1) after others)
+    → answer_schedule number state (line ∷ others) ≡ with_front (reply_line (schedule_words said)) (answer_schedule (number + 1) after others)
 unfolding answer_schedule
 schedule-good number state after line good said others means says leaves =
-    ap (λ found. option_map_or (λ made. with_front (reply_line (said_words (line_said state made).said)) (answer_schedule (number + 1) (line_said state made).machine others)) found (bad_at number)) means
-    ∙ ap (λ words. with_front (reply_line (said_words words)) (answer_schedule (number + 1) (line_said state good).machine others)) (sym says)
-    ∙ ap (λ s. with_front (reply_line (said_words said)) (answer_schedule (number + 1) s others)) (sym leaves)
+    ap (λ found. option_map_or (λ made. with_front (reply_line (schedule_words (line_said state made).said)) (answer_schedule (number + 1) (line_said state made).machine others)) found (bad_at number)) means
+    ∙ ap (λ words. with_front (reply_line (schedule_words words)) (answer_schedule (number + 1) (line_said state good).machine others)) (sym says)
+    ∙ ap (λ s. with_front (reply_line (schedule_words said)) (answer_schedule (number + 1) s others)) (sym leaves)

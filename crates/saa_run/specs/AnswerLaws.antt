@@ -1,4 +1,4 @@
--- What always holds of the answer to lines. `steps::Speaker` asks for these facts of every speaker, and its impls
+-- What always holds of the answer to lines. `steps::Session` asks for these facts of every session, and its impls
 -- name them: so they stand here, though they are lemmas.
 use Rattle.std.proofs.Common.{◌≡◌, ◌<◌, ℕ, ◌+◌, ◌∙◌, List, [], ◌∷◌, length, Option, Some, None, ap, refl, add-zero}
 use Rattle.std.specs.Prelude.{if◌then◌else◌}

@@ -1,4 +1,4 @@
--- What always holds of a script's first lines. `opening::Opening` asks for these facts of every language, and its impls name
+-- What always holds of a script's first lines. `header::Header` asks for these facts of every language, and its impls name
 -- them: so they stand here, though they are lemmas.
 use Rattle.std.proofs.Common.{◌≡◌, ◌<◌, ℕ, List, [], length, None, ap, refl}
 use Rattle.std.specs.Prelude.{if◌then◌else◌}

@@ -2,7 +2,7 @@ pub mod Counts
 pub mod Wants
 pub mod MachineWords
 pub mod Played
-pub mod ScheduleSaid
+pub mod ScheduleReplies
 pub mod ScheduleCalls
 pub mod ScheduleLaws
 pub mod Scheduled
@@ -15,7 +15,7 @@ pub mod Language
 pub mod LockWords
 pub mod Replies
 pub mod RunLaws
-pub mod ScriptSaid
+pub mod ScriptReplies
 pub mod ScriptText
 pub mod SemaphoreWords
 pub mod Spelling

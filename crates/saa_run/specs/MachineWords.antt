@@ -10,10 +10,11 @@ use Rattle.saa_word.specs.declared.moves.Step.TheVariants.{Idle, Busy, Going, Wa
 use Rattle.saa_run.specs.Replies.{truth_word, error_word}
 use Rattle.saa_run.specs.LockWords.{try_word}
 
--- the word of an answer that is taken: a lock's is whether it was granted, a semaphore's always is
+-- the word of an answer that is taken: a lock's is whether it was granted, a semaphore's is a grant, or that it was shut
 abbrev pub taken_word : Bool → Bool → List ℕ
 taken_word true granted = truth_word granted
-taken_word false granted = codes "ok"
+taken_word false true = codes "ok"
+taken_word false false = codes "closed"
 
 -- the words of a call that is done, of a lock or of a semaphore
 abbrev pub done_words : Bool → Answer → List ℕ

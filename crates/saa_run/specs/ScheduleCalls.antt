@@ -5,7 +5,7 @@ use Rattle.std.specs.Str.{bytes_eq}
 use Rattle.saa_core_spec.specs.declared.lock.LockCall.{LockCall}
 use Rattle.saa_core_spec.specs.declared.lock.LockCall.TheVariants.{TryLock, TryShare, ReleaseLock, ReleaseShare, Downgrade, PoisonLock, ClearPoison, IsFree, IsLocked, IsShared, IsPoisoned}
 use Rattle.saa_word_steps.specs.declared.call.WordCall.{WordCall}
-use Rattle.saa_word_steps.specs.declared.call.WordCall.TheVariants.{Try, Register, Release, Available, TryLock as TriesLock, TryShare as TriesShare, RegisterMode, ReleaseLock as ReleasesLock, ReleaseShare as ReleasesShare, Downgrade as Downgrades, PoisonLock as PoisonsLock, ClearPoison as ClearsPoison, IsFree as AsksFree, IsLocked as AsksLocked, IsShared as AsksShared, IsPoisoned as AsksPoisoned, TryPoll, Poll, Cancel}
+use Rattle.saa_word_steps.specs.declared.call.WordCall.TheVariants.{Try, Register, Release, Available, Shut, IsShut, TryLock as TriesLock, TryShare as TriesShare, RegisterMode, ReleaseLock as ReleasesLock, ReleaseShare as ReleasesShare, Downgrade as Downgrades, PoisonLock as PoisonsLock, ClearPoison as ClearsPoison, IsFree as AsksFree, IsLocked as AsksLocked, IsShared as AsksShared, IsPoisoned as AsksPoisoned, TryPoll, Poll, Cancel}
 use Rattle.saa_run_text.specs.Fields.{number_of}
 use Rattle.saa_run_text.specs.Fields.{either, meaning_in}
 use Rattle.saa_run.specs.Language.{ask_in, lone_call_in}
@@ -32,9 +32,12 @@ calls_of_both = (codes "try_poll", TryPoll) ∷ (codes "poll", Poll) ∷ (codes 
 unfoldable pub call_of_both : List ℕ → Option WordCall
 call_of_both word = meaning_in calls_of_both word
 
--- a call of a semaphore that is one word
+-- the calls of a semaphore that are one word
+abbrev pub semaphore_calls : List (List ℕ × WordCall)
+semaphore_calls = (codes "available", Available) ∷ (codes "shut", Shut) ∷ (codes "is_shut", IsShut) ∷ []
+
 unfoldable pub semaphore_call : List ℕ → Option WordCall
-semaphore_call word = if bytes_eq word (codes "available") then Some Available else None
+semaphore_call word = meaning_in semaphore_calls word
 
 -- a call of a lock that is one word
 unfoldable pub lock_call : List ℕ → Option WordCall

@@ -1,4 +1,4 @@
--- What always holds of a schedule's lines. `opening::Opening` and `steps::Speaker` ask for these facts, and the impls name them:
+-- What always holds of a schedule's lines. `header::Header` and `steps::Session` ask for these facts, and the impls name them:
 -- so they stand here, though they are lemmas.
 use Rattle.std.proofs.Common.{◌≡◌, ◌<◌, ℕ, ◌+◌, List, [], length, None, ap, refl}
 use Rattle.std.specs.Prelude.{if◌then◌else◌}
@@ -9,7 +9,7 @@ use Rattle.saa_run.specs.declared.schedule.lines.FirstOfSchedule.{FirstOfSchedul
 use Rattle.saa_run_text.specs.Fields.{fields_of}
 use Rattle.saa_run.specs.Schedules.{first_schedule_in, first_schedule_of, schedule_line_in, schedule_line_of}
 use Rattle.saa_run.specs.Scheduled.{answer_schedule, behind_schedule, line_said}
-use Rattle.saa_run.specs.ScheduleSaid.{said_words}
+use Rattle.saa_run.specs.ScheduleReplies.{schedule_words}
 use Rattle.saa_run_text.specs.Text.{reply_line, with_front}
 use Rattle.saa_run_text.specs.Steps.{no_lines, bad_at, IsBadAt}
 
@@ -36,7 +36,7 @@ behind-nothing first = refl
 pub schedule-bad : (number : ℕ) (state : State) (line : List ℕ) → schedule_line_of (is_lock state) (length state.places) line ≡ None → IsBadAt number (answer_schedule number state) line
 unfolding answer_schedule
 schedule-bad number state line none = λ others.
-    ap (λ found. option_map_or (λ good. with_front (reply_line (said_words (line_said state good).said)) (answer_schedule (number + 1) (line_said state good).machine others)) found (bad_at number)) none
+    ap (λ found. option_map_or (λ good. with_front (reply_line (schedule_words (line_said state good).said)) (answer_schedule (number + 1) (line_said state good).machine others)) found (bad_at number)) none
 
 -- so is one of more than 80 bytes
 pub schedule-long : (number : ℕ) (state : State) (line : List ℕ) → 80 < length line → IsBadAt number (answer_schedule number state) line

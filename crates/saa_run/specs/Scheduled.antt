@@ -12,20 +12,20 @@ use Rattle.saa_word.specs.declared.moves.Step.TheVariants.{Going}
 use Rattle.saa_word.specs.Kinds.{kind_at}
 use Rattle.saa_word.specs.Machine.{Moved, State, is_lock, opened, place_of}
 use Rattle.saa_word.specs.Moves.{gone}
-use Rattle.saa_run.specs.declared.schedule.said.Said.{Said}
-use Rattle.saa_run.specs.declared.schedule.said.Said.TheVariants.{Step as Did, At, Main}
+use Rattle.saa_run.specs.declared.schedule.reply.ScheduleReply.{ScheduleReply}
+use Rattle.saa_run.specs.declared.schedule.reply.ScheduleReply.TheVariants.{Step as Did, At, Main}
 use Rattle.saa_run.specs.declared.schedule.lines.FirstOfSchedule.{FirstOfSchedule}
 use Rattle.saa_run.specs.declared.schedule.lines.FirstOfSchedule.TheVariants.{Semaphore, Bounded, Lock}
 use Rattle.saa_run.specs.declared.schedule.lines.ScheduleLine.{ScheduleLine}
 use Rattle.saa_run.specs.declared.schedule.lines.ScheduleLine.TheVariants.{Start, Go, End, Until, Word}
 use Rattle.saa_run.specs.Schedules.{schedule_line_of}
-use Rattle.saa_run.specs.ScheduleSaid.{said_words}
+use Rattle.saa_run.specs.ScheduleReplies.{schedule_words}
 use Rattle.saa_run_text.specs.Text.{Answer, reply_line, with_front}
 use Rattle.saa_run_text.specs.Steps.{bad_at, no_lines}
 
 -- what a line is answered, and the machine behind it
-pub record Spoken : Type 0 where
-  pub said : Said
+pub record Replied : Type 0 where
+  pub said : ScheduleReply
   pub machine : State
 
 -- whether a place is in the middle of its call behind a step
@@ -61,11 +61,11 @@ abbrev pub is_at : State → ℕ → Kind → Bool
 is_at state me kind = is_of kind (kind_at (place_of state me).stage)
 
 -- what a move says: what it did, of a lock or of a semaphore
-abbrev pub move_said : Moved → Spoken
+abbrev pub move_said : Moved → Replied
 move_said moved = record { said = Did (is_lock moved.machine) moved.step; machine = moved.machine }
 
 -- steps of a place until the next one is of this kind, at most so many
-unfoldable pub until_at : ℕ → State → ℕ → Kind → Spoken
+unfoldable pub until_at : ℕ → State → ℕ → Kind → Replied
 until_at zero state me kind = record { said = if is_at state me kind then At kind else Did (is_lock state) Going; machine = state }
 until_at (suc more) state me kind =
     if is_at state me kind
@@ -79,7 +79,7 @@ abbrev pub most_steps : ℕ
 most_steps = 1000
 
 -- what a line says, and does
-abbrev pub line_said : State → ScheduleLine → Spoken
+abbrev pub line_said : State → ScheduleLine → Replied
 line_said state (Start me call) = move_said (gone state (Starts me call))
 line_said state (Go me) = move_said (gone state (Goes me))
 line_said state (End me) = move_said (ended most_steps state me)
@@ -91,7 +91,7 @@ unfoldable pub answer_schedule : ℕ → State → List (List ℕ) → Answer
 answer_schedule number state [] = no_lines
 answer_schedule number state (line ∷ lines) =
     option_map_or
-    (λ good. with_front (reply_line (said_words (line_said state good).said)) (answer_schedule (number + 1) (line_said state good).machine lines))
+    (λ good. with_front (reply_line (schedule_words (line_said state good).said)) (answer_schedule (number + 1) (line_said state good).machine lines))
     (schedule_line_of (is_lock state) (length state.places) line) (bad_at number)
 
 -- the machine that a first line makes: a semaphore of which so many permits are withheld, all of them where that is more, or a free lock

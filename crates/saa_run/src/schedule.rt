@@ -3,36 +3,36 @@
 //! Held to `specs/Scheduled.antt`.
 pub mod calls;
 pub mod lines;
-pub mod said;
+pub mod reply;
 
 ghost use Rattle.std.specs.Prelude.{◌≡◌, ◌<◌, IfOk, length};
 ghost use Rattle.saa_word.specs.Machine.{is_lock};
-ghost use Rattle.saa_run.specs.declared.schedule.said.Said.TheVariants.{Step as Did};
+ghost use Rattle.saa_run.specs.declared.schedule.reply.ScheduleReply.TheVariants.{Step as Did};
 ghost use Rattle.saa_run.specs.Schedules.{IsLineOf};
 ghost use Rattle.saa_run.specs.Scheduled.{ended, goes_on, is_at, line_said, machine_of, most_steps, until_at};
 
 use crate::schedule::lines::{
     FirstOfSchedule, ScheduleLine, parse_first_of_schedule, parse_schedule,
 };
-use crate::schedule::said::Said;
+use crate::schedule::reply::ScheduleReply;
 use saa::word::machine::{Kind, Machine, Move, Step, WordCall};
 use saa::words::word::Word;
 use saa_run_text::ended::Ended;
-use saa_run_text::opening::Opening;
-use saa_run_text::steps::{Speaker, run_lines};
+use saa_run_text::header::Header;
+use saa_run_text::steps::{Session, run_lines};
 use std::alloc::{AllocError, Global};
 use std::io::{Read, Write};
 
 // How many steps a line makes at most.
 const MOST_STEPS: u16 = 1000;
 
-/// A machine that the lines of a schedule speak to.
+/// A machine that the lines of a schedule reply_to to.
 #[derive(Drop)]
 pub struct Schedule {
     machine: Machine,
 }
 
-impl Opening for FirstOfSchedule {
+impl Header for FirstOfSchedule {
     ghost use Rattle.saa_run.specs.Schedules.{first_schedule_of};
     ghost use Rattle.saa_run.specs.Scheduled.{behind_schedule};
     ghost use Rattle.saa_run.specs.ScheduleLaws.{behind-nothing, first-empty, first-long};
@@ -83,7 +83,7 @@ fn made(first: FirstOfSchedule, alloc: Global) -> Result<Machine, AllocError>
 
 impl Schedule {
     // Does what a line says.
-    fn say(&mut self, line: ScheduleLine) -> Said
+    fn say(&mut self, line: ScheduleLine) -> ScheduleReply
         requires { IsLineOf (is_lock self.old.machine) (length self.old.machine.places) line }
         ensures said { result ≡ (line_said self.old.machine line).said }
         ensures machine { self.new.machine ≡ (line_said self.old.machine line).machine }
@@ -102,20 +102,20 @@ impl Schedule {
                 did(&self.machine, step)
             }
             ScheduleLine::Until(place, kind) => until(&mut self.machine, place, kind),
-            ScheduleLine::Word => Said::Main(Word::unpack(self.machine.word())),
+            ScheduleLine::Word => ScheduleReply::Main(Word::unpack(self.machine.word())),
         }
     }
 }
 
-impl Speaker for Schedule {
-    type Said = Said;
+impl Session for Schedule {
+    type Reply = ScheduleReply;
 
     ghost use Rattle.saa_run.specs.Scheduled.{answer_schedule};
     ghost use Rattle.saa_run.specs.ScheduleLaws.{schedule-end, schedule-long};
 
     ghost answer_to = { λ schedule number lines. answer_schedule number schedule.machine lines };
 
-    fn speak(&mut self, line: &[u8]) -> Option<Said> {
+    fn reply_to(&mut self, line: &[u8]) -> Option<ScheduleReply> {
         match parse_schedule(is_lock(&self.machine), self.machine.places(), line) {
             None => None,
             Some(good) => Some(self.say(good)),
@@ -135,10 +135,10 @@ fn is_lock(machine: &Machine) -> bool
 }
 
 // What a step says that a machine did.
-fn did(machine: &Machine, step: Step) -> Said
+fn did(machine: &Machine, step: Step) -> ScheduleReply
     ensures { result ≡ Did (is_lock machine.now) step }
 {
-    Said::Step {
+    ScheduleReply::Step {
         is_lock: is_lock(machine),
         step,
     }
@@ -176,7 +176,7 @@ pub fn end(machine: &mut Machine, place: u16) -> Step
 }
 
 // The same, until the next step is of this kind.
-fn until(machine: &mut Machine, place: u16, kind: Kind) -> Said
+fn until(machine: &mut Machine, place: u16, kind: Kind) -> ScheduleReply
     requires { place < length machine.old.places }
     ensures said { result ≡ (until_at most_steps machine.old place kind).said }
     ensures machine { machine.new ≡ (until_at most_steps machine.old place kind).machine }
@@ -184,7 +184,7 @@ fn until(machine: &mut Machine, place: u16, kind: Kind) -> Said
 {
     for _step in 0..MOST_STEPS {
         if is_at(machine, place, kind) {
-            return Said::At(kind);
+            return ScheduleReply::At(kind);
         }
         let step = machine.go(Move::Go(place));
         if !goes_on(step) {
@@ -192,7 +192,7 @@ fn until(machine: &mut Machine, place: u16, kind: Kind) -> Said
         }
     }
     if is_at(machine, place, kind) {
-        return Said::At(kind);
+        return ScheduleReply::At(kind);
     }
     did(machine, Step::Going)
 }

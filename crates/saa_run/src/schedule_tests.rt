@@ -11,7 +11,7 @@ use std::alloc::Global;
 use std::process::Abort;
 
 /// Good lines of each kind, each reply, and numbers at their limits.
-static SCHEDULES: [Row; 20] = [
+static SCHEDULES: [Row; 22] = [
     // Two give something back while a third waits: the one who walks grants for both.
     Row {
         input: "semaphore 0 3\nstart 1 try 63\nend 1\nstart 0 reg 10\nend 0\nstart 1 release 5\nuntil 1 publish\nword\nstart 2 release 5\nend 2\nword\nend 1\nword\nstart 0 try_poll\nend 0\n",
@@ -47,6 +47,18 @@ static SCHEDULES: [Row; 20] = [
     Row {
         input: "lock 3\nstart 0 try_lock\nend 0\nstart 1 reg shared\nend 1\nstart 1 cancel\nuntil 1 tail\nword\nstart 0 poison_lock\nend 0\nend 1\nword\nend 0\nword\n",
         output: "going\ndone ok\ngoing\ndone true\ngoing\nat tail\n63 1 0 2\ngoing\nwaits\ndone\n63 0 0 0\ndone true\n0 0 1 0\n",
+        status: 0,
+    },
+    // A semaphore that is shut while a place waits: what is taken stays, and comes back; each later call is refused or told `closed`.
+    Row {
+        input: "semaphore 0 3\nstart 1 try 60\nend 1\nstart 0 reg 10\nend 0\nword\nstart 2 is_shut\nend 2\nstart 2 shut\nuntil 2 show\nword\nstart 0 try_poll\nend 0\nend 2\nstart 0 poll\nend 0\nstart 0 reg 1\nend 0\nstart 0 try_poll\nstart 1 try 1\nend 1\nstart 1 available\nend 1\nstart 1 release 60\nend 1\nword\nstart 2 shut\nend 2\nstart 2 is_shut\nend 2\n",
+        output: "going\ndone true\ngoing\ndone true\n60 0 0 1\ngoing\ndone false\ngoing\nat show\n60 0 1 0\ngoing\ndone not_ready\ndone true\ngoing\ndone closed\ngoing\ndone true\ndone closed\ngoing\ndone false\ngoing\ndone 3\ngoing\ndone true\n0 0 1 0\ngoing\ndone false\ngoing\ndone true\n",
+        status: 0,
+    },
+    // A shut while a cancel holds the flag.
+    Row {
+        input: "semaphore 0 3\nstart 1 try 63\nend 1\nstart 0 reg 1\nend 0\nstart 0 cancel\nuntil 0 tail\nword\nstart 2 shut\nend 2\nend 0\nword\nend 2\nword\n",
+        output: "going\ndone true\ngoing\ndone true\ngoing\nat tail\n63 1 0 1\ngoing\nwaits\ndone\n63 0 0 0\ndone true\n63 0 1 0\n",
         status: 0,
     },
     // An owner becomes a sharer while there is a waiter: the flag is taken with the first exchange, and the share in front is granted.

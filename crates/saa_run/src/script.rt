@@ -7,9 +7,9 @@ pub mod command;
 mod gate_words;
 pub mod laws;
 pub mod lock_words;
-pub mod said;
+pub mod reply;
+pub mod script_core;
 mod semaphore_words;
-pub mod spoken;
 
 ghost use Rattle.std.specs.Prelude.{◌<◌, replicate};
 ghost use Rattle.saa_run_text.specs.Outcome.{OpensWith};
@@ -29,18 +29,18 @@ ghost use Rattle.saa_run.specs.ScriptText.{answer_from, pagers};
 
 use crate::script::bench_script::BenchScript;
 use crate::script::command::{Bound, FirstLine, parse_first};
-use crate::script::spoken::Spoken;
+use crate::script::script_core::ScriptCore;
 use saa::barrier::BarrierCore;
 use saa::gate::GateCore;
 use saa::lock::LockCore;
 use saa::semaphore::SemaphoreCoreOf;
 use saa_run_text::ended::Ended;
-use saa_run_text::opening::Opening;
+use saa_run_text::header::Header;
 use saa_run_text::steps::run_lines;
 use std::alloc::{AllocError, Global};
 use std::io::{Read, Write};
 
-impl Opening for FirstLine {
+impl Header for FirstLine {
     ghost use Rattle.saa_run.specs.Language.{first_line_of};
     ghost use Rattle.saa_run.specs.ScriptText.{answer_behind};
     ghost use Rattle.saa_run.specs.FirstLaws.{behind-none, first-empty, first-long};
@@ -169,7 +169,7 @@ fn open_barrier<R: Read, W: Write>(
 }
 
 /// Answers the lines behind the first, from the core that the first line made.
-fn run_core<P: Spoken, R: Read, W: Write>(
+fn run_core<P: ScriptCore, R: Read, W: Write>(
     alloc: Global,
     core: P,
     reader: &mut R,

@@ -42,7 +42,7 @@ static SCRIPTS: [First; 5] = [
 
 const OF_A_SEMAPHORE: [&str; 4] = [
     "try_poll|poll_sync|poll_async|registered|drop|leave P",
-    "available|is_open|is_closed",
+    "available|is_open|is_closed|is_shut|shut",
     "try|release N",
     "reg P N sync|async",
 ];
@@ -88,7 +88,7 @@ const OF_PERMITS: [&str; 5] = [
     "word",
     "go|end P",
     "until P ask|prepare|join|release|walk|publish|show|take|flag|unlink|tail|poison|clear",
-    "start P try_poll|poll|cancel|available",
+    "start P try_poll|poll|cancel|available|shut|is_shut",
     "start P try|reg|release N",
 ];
 

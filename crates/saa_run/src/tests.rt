@@ -8,8 +8,8 @@ use crate::asked;
 use crate::bound_rows::BOUND_ROWS;
 use crate::kind_rows::KIND_ROWS;
 use crate::run::{Wanted, script};
-use crate::script::said::Said;
-use crate::script::spoken::said;
+use crate::script::reply::ScriptReply;
+use crate::script::script_core::replied;
 use crate::spelling::Language;
 use crate::tests::more_rows::MORE_ROWS;
 use crate::tests::runs::{compare, compare_run, fails_to_read, fails_to_write};
@@ -407,11 +407,11 @@ fn lines_are_read() -> bool {
 
 // Writes a text, two replies and the line that tells of a bad one: whether all went out.
 fn all_are_put<W: Write>(writer: &mut W) -> bool {
-    let number = said::<SemaphoreCore>(ReplyOf::Answered(SemaphoreAnswer::Number(63)));
+    let number = replied::<SemaphoreCore>(ReplyOf::Answered(SemaphoreAnswer::Number(63)));
     put(writer, b"one").is_ok()
         && put(writer, b"two\n").is_ok()
         && put_reply(writer, number).is_ok()
-        && put_reply(writer, Said::Full).is_ok()
+        && put_reply(writer, ScriptReply::Full).is_ok()
         && put_bad_line(writer, 18446744073709551615).is_ok()
 }
 

@@ -15,7 +15,7 @@ use std::io::Write;
 pub type ReplyText = ArrayString<64>;
 
 /// What a language replies to its lines.
-pub trait Reply: Copy {
+pub trait ReplyWords: Copy {
     // What it says, without the newline behind it.
     ghost words: { Self → List ℕ };
 
@@ -58,7 +58,7 @@ pub fn numbered(front: &str, number: usize) -> ReplyText
 }
 
 /// Writes a reply on a line of its own.
-pub fn put_reply<A: Reply, W: Write>(writer: &mut W, said: A) -> Result<(), WriteFailed>
+pub fn put_reply<A: ReplyWords, W: Write>(writer: &mut W, said: A) -> Result<(), WriteFailed>
     ensures { Puts result (W.contents writer.old) (W.contents writer.new) (reply_line (A.words said)) }
 {
     let mut line = said.text();

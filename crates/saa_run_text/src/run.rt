@@ -1,14 +1,14 @@
 //! A run of an input, from the bytes read to the bytes written, over any reader and any writer.
 //!
 //! Held to `specs/Outcome.antt`, which speaks of the text of an input in `specs/Text.antt`. Which first lines are good, and what
-//! they open, is an `Opening`'s.
+//! they open, is an `Header`'s.
 ghost use Rattle.std.specs.Prelude.{◌≡◌, ◌⊎◌};
 ghost use Rattle.std.specs.Io.KnownBytes.{Keeps};
 ghost use Rattle.saa_run_text.specs.Outcome.{Starts, Tells, Finishes, RunsWhole, no_memory as no_memory_text};
 ghost use Rattle.saa_run_text.specs.Text.{answer_by, on_bytes};
 
 use crate::ended::Ended;
-use crate::opening::Opening;
+use crate::header::Header;
 use crate::steps::end_at;
 use crate::transfer::{Cut, LineBytes, put, read_line};
 use std::alloc::{AllocError, Global};
@@ -19,7 +19,7 @@ use std::io::{Read, Write};
 ///
 /// The status is 0 where the input was read to its end and has no bad line, 2 at a bad line, 3 with `no memory` where memory
 /// was refused, which only a good first line can meet, and 4 where a read, a write or a flush failed or the input has no end.
-pub fn run_input<O: Opening, R: Read, W: Write>(alloc: Global, reader: &mut R, writer: &mut W) -> u8
+pub fn run_input<O: Header, R: Read, W: Write>(alloc: Global, reader: &mut R, writer: &mut W) -> u8
     ensures { RunsWhole O.reads (on_bytes (answer_by O.reads O.behind)) result
         (R.remaining reader.old) (R.remaining reader.new) (W.contents writer.old) (W.contents writer.new) }
 {
@@ -28,7 +28,7 @@ pub fn run_input<O: Opening, R: Read, W: Write>(alloc: Global, reader: &mut R, w
 }
 
 /// Reads the first line, makes what it says, and answers the lines behind it.
-fn start<O: Opening, R: Read, W: Write>(
+fn start<O: Header, R: Read, W: Write>(
     alloc: Global,
     reader: &mut R,
     writer: &mut W,

@@ -57,6 +57,12 @@ fn semaphore_call(word: &[u8]) -> Option<WordCall>
     if word == b"available".as_slice() {
         return Some(WordCall::Available);
     }
+    if word == b"shut".as_slice() {
+        return Some(WordCall::Shut);
+    }
+    if word == b"is_shut".as_slice() {
+        return Some(WordCall::IsShut);
+    }
     None
 }
 

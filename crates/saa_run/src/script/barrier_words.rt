@@ -6,15 +6,15 @@ ghost use Rattle.std.specs.Prelude.{◌≡◌};
 ghost use Rattle.saa_run.specs.Language.{lone_call_in};
 ghost use Rattle.saa_run.specs.BarrierWords.{barrier_answer, barrier_readings};
 ghost use Rattle.saa_run.specs.Replies.{truth_poll};
-ghost use Rattle.saa_run.specs.ScriptSaid.{said_words};
+ghost use Rattle.saa_run.specs.ScriptReplies.{script_words};
 
-use crate::script::said::Said;
-use crate::script::spoken::{Spoken, nothing_asked, said_truth};
+use crate::script::reply::ScriptReply;
+use crate::script::script_core::{ScriptCore, nothing_asked, truth_reply};
 use crate::words::meaning;
 use saa::barrier::{BarrierAnswer, BarrierCall, BarrierCore};
 use saa::ticket::Error;
 
-impl Spoken for BarrierCore {
+impl ScriptCore for BarrierCore {
     ghost readings = { barrier_readings };
 
     ghost answer_words = { barrier_answer };
@@ -35,12 +35,12 @@ impl Spoken for BarrierCore {
         nothing_asked(field)
     }
 
-    fn said_answer(answer: BarrierAnswer) -> Said {
-        said_answer(answer)
+    fn answer_reply(answer: BarrierAnswer) -> ScriptReply {
+        answer_reply(answer)
     }
 
-    fn said_poll(answer: Result<bool, Error>) -> Said {
-        said_truth(answer)
+    fn poll_reply(answer: Result<bool, Error>) -> ScriptReply {
+        truth_reply(answer)
     }
 }
 
@@ -62,12 +62,12 @@ fn lone_call(word: &[u8]) -> Option<BarrierCall>
 }
 
 /// What a call's answer says.
-fn said_answer(answer: BarrierAnswer) -> Said
-    ensures { said_words result ≡ barrier_answer answer }
+fn answer_reply(answer: BarrierAnswer) -> ScriptReply
+    ensures { script_words result ≡ barrier_answer answer }
 {
     match answer {
-        BarrierAnswer::Count(number) => Said::Number(number),
-        BarrierAnswer::Bool(truth) => Said::Truth(truth),
-        BarrierAnswer::Round(number) => Said::Number(number as usize),
+        BarrierAnswer::Count(number) => ScriptReply::Number(number),
+        BarrierAnswer::Bool(truth) => ScriptReply::Truth(truth),
+        BarrierAnswer::Round(number) => ScriptReply::Number(number as usize),
     }
 }

@@ -8,10 +8,10 @@ ghost use Rattle.saa_core.specs.Tickets.{object_of};
 ghost use Rattle.saa_run.specs.ScriptText.{pagers};
 
 use crate::script::command::{ScriptLine, parse_line};
-use crate::script::said::Said;
-use crate::script::spoken::{Spoken, said};
+use crate::script::reply::ScriptReply;
+use crate::script::script_core::{ScriptCore, replied};
 use saa::bench::{Bench, Primitive};
-use saa_run_text::steps::Speaker;
+use saa_run_text::steps::Session;
 use std::alloc::{AllocError, Global};
 
 /// A bench of one primitive, with as many pagers as a line can name.
@@ -31,8 +31,8 @@ impl<P: Primitive> BenchScript<P> {
     }
 }
 
-impl<P: Spoken> Speaker for BenchScript<P> {
-    type Said = Said;
+impl<P: ScriptCore> Session for BenchScript<P> {
+    type Reply = ScriptReply;
 
     ghost use Rattle.saa_run.specs.Language.{line_of};
     ghost use Rattle.saa_run.specs.Replies.{line_does, reply_words};
@@ -42,11 +42,11 @@ impl<P: Spoken> Speaker for BenchScript<P> {
     ghost answer_to = { λ script number lines. answer_from (line_of P.readings)
         (line_does (reply_words P.answer_words P.poll_words) P.request P.step P.value) number script.bench lines };
 
-    fn speak(&mut self, line: &[u8]) -> Option<Said> {
+    fn reply_to(&mut self, line: &[u8]) -> Option<ScriptReply> {
         match parse_line::<P>(line) {
             None => None,
-            Some(ScriptLine::Do(command)) => Some(said::<P>(self.bench.do_one(&command))),
-            Some(ScriptLine::Registered(pager)) => Some(Said::Truth(
+            Some(ScriptLine::Do(command)) => Some(replied::<P>(self.bench.do_one(&command))),
+            Some(ScriptLine::Registered(pager)) => Some(ScriptReply::Truth(
                 self.bench.is_registered(pager),
             )),
         }

@@ -1,14 +1,14 @@
 //! The lines of a script: which first line they follow, and which command each of them is.
 //!
 //! Held to `specs/Language.antt`: a line is good exactly where it is a command's spelling, which
-//! `laws` proves. The lines that all primitives share are here; a kind's own words are a `Spoken`'s. What a
+//! `laws` proves. The lines that all primitives share are here; a kind's own words are a `ScriptCore`'s. What a
 //! command does is left to the primitive's core.
 ghost use Rattle.std.specs.Prelude.{◌≡◌};
 ghost use Rattle.saa_run_text.specs.Fields.{either};
 ghost use Rattle.saa_run.specs.Language.{pager_of, room_of, bound_of, mode_of, lone_line, counted_line, pager_line, registration, line_of, roomed_made, counted_made, bounded_made, first_line_of};
 ghost use Rattle.saa_run_text.specs.Fields.{number_of};
 
-use crate::script::spoken::Spoken;
+use crate::script::script_core::ScriptCore;
 use crate::words::meaning;
 use saa::bench::{CommandOf, Primitive};
 use saa_run_text::fields::{count, first_field, number};
@@ -115,7 +115,7 @@ fn mode(field: &[u8]) -> Option<bool>
 
 /// A line that is one word.
 #[tactic(auto, unfolding(crate::specs::Language::lone_line))]
-fn lone_word<P: Spoken>(word: &[u8]) -> Option<LineOf<P>>
+fn lone_word<P: ScriptCore>(word: &[u8]) -> Option<LineOf<P>>
     ensures { result ≡ lone_line P.readings word.now }
 {
     match P::lone_call(word) {
@@ -126,7 +126,7 @@ fn lone_word<P: Spoken>(word: &[u8]) -> Option<LineOf<P>>
 
 /// A line that is a word and a number.
 #[tactic(auto, unfolding(crate::specs::Language::counted_line))]
-fn counted_words<P: Spoken>(word: &[u8], field: &[u8]) -> Option<LineOf<P>>
+fn counted_words<P: ScriptCore>(word: &[u8], field: &[u8]) -> Option<LineOf<P>>
     ensures { result ≡ counted_line P.readings word.now field.now }
 {
     match P::counted_call(word, count(field)?) {
@@ -179,7 +179,7 @@ fn registration_words<C, K: Copy>(
 }
 
 /// A line that is two fields.
-fn two_words<P: Spoken>(word: &[u8], field: &[u8]) -> Option<LineOf<P>>
+fn two_words<P: ScriptCore>(word: &[u8], field: &[u8]) -> Option<LineOf<P>>
     ensures { result ≡ either (pager_line word.now field.now) (counted_line P.readings word.now field.now) }
 {
     match pager_words(word, field) {
@@ -190,7 +190,7 @@ fn two_words<P: Spoken>(word: &[u8], field: &[u8]) -> Option<LineOf<P>>
 
 /// The line of a script that these bytes are, behind the first line.
 #[tactic(auto, using(saa_run_text::proofs::FieldLemmas::some_field), unfolding(crate::specs::Language::line_of))]
-pub fn parse_line<P: Spoken>(line: &[u8]) -> Option<LineOf<P>>
+pub fn parse_line<P: ScriptCore>(line: &[u8]) -> Option<LineOf<P>>
     ensures { result ≡ line_of P.readings line.now }
 {
     if line.len() > 80 {

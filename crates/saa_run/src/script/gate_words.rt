@@ -2,14 +2,14 @@
 ghost use Rattle.std.specs.Prelude.{◌≡◌};
 ghost use Rattle.saa_run.specs.Language.{counted_call_in, lone_call_in};
 ghost use Rattle.saa_run.specs.GateWords.{gate_answer, gate_poll, gate_readings};
-ghost use Rattle.saa_run.specs.ScriptSaid.{said_words};
+ghost use Rattle.saa_run.specs.ScriptReplies.{script_words};
 
-use crate::script::said::Said;
-use crate::script::spoken::{Spoken, nothing_asked};
+use crate::script::reply::ScriptReply;
+use crate::script::script_core::{ScriptCore, nothing_asked};
 use crate::words::meaning;
 use saa::gate::{Error, GateAnswer, GateCall, GateCore, State};
 
-impl Spoken for GateCore {
+impl ScriptCore for GateCore {
     ghost readings = { gate_readings };
 
     ghost answer_words = { gate_answer };
@@ -29,12 +29,12 @@ impl Spoken for GateCore {
         nothing_asked(field)
     }
 
-    fn said_answer(answer: GateAnswer) -> Said {
-        said_answer(answer)
+    fn answer_reply(answer: GateAnswer) -> ScriptReply {
+        answer_reply(answer)
     }
 
-    fn said_poll(answer: Result<State, Error>) -> Said {
-        said_poll(answer)
+    fn poll_reply(answer: Result<State, Error>) -> ScriptReply {
+        poll_reply(answer)
     }
 }
 
@@ -68,25 +68,25 @@ fn counted_call(word: &[u8], count: usize) -> Option<GateCall>
 }
 
 /// What a call's answer says.
-fn said_answer(answer: GateAnswer) -> Said
-    ensures { said_words result ≡ gate_answer answer }
+fn answer_reply(answer: GateAnswer) -> ScriptReply
+    ensures { script_words result ≡ gate_answer answer }
 {
     match answer {
-        GateAnswer::State(state) => Said::GateState(state),
-        GateAnswer::Reset(None) => Said::NoState,
-        GateAnswer::Reset(Some(state)) => Said::GateState(state),
-        GateAnswer::Answered(Ok(number)) => Said::Answered(number),
-        GateAnswer::Answered(Err(state)) => Said::Turned(state),
-        GateAnswer::Moved(state, number) => Said::Moved(state, number),
+        GateAnswer::State(state) => ScriptReply::GateState(state),
+        GateAnswer::Reset(None) => ScriptReply::NoState,
+        GateAnswer::Reset(Some(state)) => ScriptReply::GateState(state),
+        GateAnswer::Answered(Ok(number)) => ScriptReply::Answered(number),
+        GateAnswer::Answered(Err(state)) => ScriptReply::Turned(state),
+        GateAnswer::Moved(state, number) => ScriptReply::Moved(state, number),
     }
 }
 
 /// What a poll's answer says.
-fn said_poll(answer: Result<State, Error>) -> Said
-    ensures { said_words result ≡ gate_poll answer }
+fn poll_reply(answer: Result<State, Error>) -> ScriptReply
+    ensures { script_words result ≡ gate_poll answer }
 {
     match answer {
-        Ok(state) => Said::Passed(state),
-        Err(error) => Said::Barred(error),
+        Ok(state) => ScriptReply::Passed(state),
+        Err(error) => ScriptReply::Barred(error),
     }
 }

@@ -4,15 +4,15 @@ ghost use Rattle.std.specs.Option.{option_map};
 ghost use Rattle.saa_run.specs.Language.{ask_in, lone_call_in};
 ghost use Rattle.saa_run.specs.LockWords.{lock_answer, lock_readings};
 ghost use Rattle.saa_run.specs.Replies.{truth_poll};
-ghost use Rattle.saa_run.specs.ScriptSaid.{said_words};
+ghost use Rattle.saa_run.specs.ScriptReplies.{script_words};
 
-use crate::script::said::Said;
-use crate::script::spoken::{Spoken, said_truth};
+use crate::script::reply::ScriptReply;
+use crate::script::script_core::{ScriptCore, truth_reply};
 use crate::words::meaning;
 use saa::lock::{LockAnswer, LockCall, LockCore, Mode, TryLockError};
 use saa::ticket::Error;
 
-impl Spoken for LockCore {
+impl ScriptCore for LockCore {
     ghost readings = { lock_readings };
 
     ghost answer_words = { lock_answer };
@@ -32,12 +32,12 @@ impl Spoken for LockCore {
         ask(field)
     }
 
-    fn said_answer(answer: LockAnswer) -> Said {
-        said_answer(answer)
+    fn answer_reply(answer: LockAnswer) -> ScriptReply {
+        answer_reply(answer)
     }
 
-    fn said_poll(answer: Result<bool, Error>) -> Said {
-        said_truth(answer)
+    fn poll_reply(answer: Result<bool, Error>) -> ScriptReply {
+        truth_reply(answer)
     }
 }
 
@@ -81,13 +81,13 @@ pub fn ask(field: Option<&[u8]>) -> Option<Mode>
 }
 
 /// What a call's answer says.
-fn said_answer(answer: LockAnswer) -> Said
-    ensures { said_words result ≡ lock_answer answer }
+fn answer_reply(answer: LockAnswer) -> ScriptReply
+    ensures { script_words result ≡ lock_answer answer }
 {
     match answer {
-        LockAnswer::Bool(truth) => Said::Truth(truth),
-        LockAnswer::Tried(Ok(())) => Said::Taken,
-        LockAnswer::Tried(Err(TryLockError::WouldBlock)) => Said::WouldBlock,
-        LockAnswer::Tried(Err(TryLockError::Poisoned)) => Said::Poisoned,
+        LockAnswer::Bool(truth) => ScriptReply::Truth(truth),
+        LockAnswer::Tried(Ok(())) => ScriptReply::Taken,
+        LockAnswer::Tried(Err(TryLockError::WouldBlock)) => ScriptReply::WouldBlock,
+        LockAnswer::Tried(Err(TryLockError::Poisoned)) => ScriptReply::Poisoned,
     }
 }

@@ -4,14 +4,14 @@ ghost use Rattle.std.specs.Option.{option_map};
 ghost use Rattle.saa_run.specs.Language.{ask_in, counted_call_in, lone_call_in};
 ghost use Rattle.saa_run.specs.SemaphoreWords.{semaphore_answer, semaphore_poll, semaphore_readings};
 
-use crate::script::said::Said;
-use crate::script::spoken::Spoken;
+use crate::script::reply::ScriptReply;
+use crate::script::script_core::ScriptCore;
 use crate::words::meaning;
 use saa::semaphore::{SemaphoreAnswer, SemaphoreCall, SemaphoreCoreOf};
 use saa::ticket::Error;
 use saa_run_text::fields::count;
 
-impl<const MAX: usize> Spoken for SemaphoreCoreOf<MAX> {
+impl<const MAX: usize> ScriptCore for SemaphoreCoreOf<MAX> {
     ghost readings = { semaphore_readings };
 
     ghost answer_words = { semaphore_answer };
@@ -30,17 +30,17 @@ impl<const MAX: usize> Spoken for SemaphoreCoreOf<MAX> {
         ask(field)
     }
 
-    fn said_answer(answer: SemaphoreAnswer) -> Said {
+    fn answer_reply(answer: SemaphoreAnswer) -> ScriptReply {
         match answer {
-            SemaphoreAnswer::Bool(truth) => Said::Truth(truth),
-            SemaphoreAnswer::Number(number) => Said::Number(number),
+            SemaphoreAnswer::Bool(truth) => ScriptReply::Truth(truth),
+            SemaphoreAnswer::Number(number) => ScriptReply::Number(number),
         }
     }
 
-    fn said_poll(answer: Result<(), Error>) -> Said {
+    fn poll_reply(answer: Result<(), Error>) -> ScriptReply {
         match answer {
-            Ok(()) => Said::Taken,
-            Err(error) => Said::Refused(error),
+            Ok(()) => ScriptReply::Taken,
+            Err(error) => ScriptReply::Refused(error),
         }
     }
 }

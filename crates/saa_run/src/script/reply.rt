@@ -1,6 +1,6 @@
 //! What a script's lines are replied, by all four primitives.
 //!
-//! Held to `specs/ScriptSaid.antt`. The words take no memory; how they are written is `saa_run_text`'s.
+//! Held to `specs/ScriptReplies.antt`. The words take no memory; how they are written is `saa_run_text`'s.
 ghost use Rattle.std.specs.Prelude.{◌≡◌, ◌≤◌, ◌++◌, ◌∷◌, decimal, length};
 ghost use Rattle.saa_run.specs.Replies.{error_word, truth_word};
 ghost use Rattle.saa_run.specs.GateWords.{state_word, gate_error_word};
@@ -8,11 +8,11 @@ ghost use Rattle.saa_run.specs.GateWords.{state_word, gate_error_word};
 use itoa::Buffer;
 use saa::gate::{self, State};
 use saa::ticket::Error;
-use saa_run_text::reply::{Reply, ReplyText, joined, numbered, word};
+use saa_run_text::reply::{ReplyText, ReplyWords, joined, numbered, word};
 
 /// What a reply says.
 #[derive(Clone, Copy)]
-pub enum Said {
+pub enum ScriptReply {
     /// `true` or `false`.
     Truth(bool),
     /// A number.
@@ -45,28 +45,28 @@ pub enum Said {
     Barred(gate::Error),
 }
 
-impl Reply for Said {
-    ghost use Rattle.saa_run.specs.ScriptSaid.{said_words};
+impl ReplyWords for ScriptReply {
+    ghost use Rattle.saa_run.specs.ScriptReplies.{script_words};
 
-    ghost words = { said_words };
+    ghost words = { script_words };
 
     fn text(self) -> ReplyText {
         match self {
-            Said::Truth(truth) => word(truth_text(truth)),
-            Said::Number(number) => numbered("", number),
-            Said::Full => word("full"),
-            Said::Taken => word("ok"),
-            Said::Refused(error) => word(error_text(error)),
-            Said::Dropped => word("dropped"),
-            Said::WouldBlock => word("would_block"),
-            Said::Poisoned => word("poisoned"),
-            Said::GateState(state) => word(state_text(state)),
-            Said::NoState => word("none"),
-            Said::Answered(number) => numbered("ok ", number),
-            Said::Turned(state) => joined("err ", state_text(state)),
-            Said::Moved(state, number) => moved_text(state, number),
-            Said::Passed(state) => joined("ok ", state_text(state)),
-            Said::Barred(error) => word(gate_error_text(error)),
+            ScriptReply::Truth(truth) => word(truth_text(truth)),
+            ScriptReply::Number(number) => numbered("", number),
+            ScriptReply::Full => word("full"),
+            ScriptReply::Taken => word("ok"),
+            ScriptReply::Refused(error) => word(error_text(error)),
+            ScriptReply::Dropped => word("dropped"),
+            ScriptReply::WouldBlock => word("would_block"),
+            ScriptReply::Poisoned => word("poisoned"),
+            ScriptReply::GateState(state) => word(state_text(state)),
+            ScriptReply::NoState => word("none"),
+            ScriptReply::Answered(number) => numbered("ok ", number),
+            ScriptReply::Turned(state) => joined("err ", state_text(state)),
+            ScriptReply::Moved(state, number) => moved_text(state, number),
+            ScriptReply::Passed(state) => joined("ok ", state_text(state)),
+            ScriptReply::Barred(error) => word(gate_error_text(error)),
         }
     }
 }

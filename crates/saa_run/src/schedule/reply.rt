@@ -1,20 +1,20 @@
 //! What a schedule's lines are replied.
 //!
-//! Held to `specs/ScheduleSaid.antt` and `specs/MachineWords.antt`. The words take no memory; how they are written is `saa_run_text`'s.
+//! Held to `specs/ScheduleReplies.antt` and `specs/MachineWords.antt`. The words take no memory; how they are written is `saa_run_text`'s.
 ghost use Rattle.std.specs.Prelude.{◌≡◌, ◌≤◌, length};
 ghost use Rattle.saa_run.specs.LockWords.{try_word};
 ghost use Rattle.saa_run.specs.MachineWords.{done_words, kind_word, main_words, mark_word, step_words, taken_word};
 
-use crate::script::said::{error_text, truth_text};
+use crate::script::reply::{error_text, truth_text};
 use itoa::Buffer;
 use saa::lock::TryLockError;
 use saa::word::machine::{Answer, Kind, Step};
 use saa::words::word::Word;
-use saa_run_text::reply::{Reply, ReplyText, joined, numbered, word};
+use saa_run_text::reply::{ReplyText, ReplyWords, joined, numbered, word};
 
 /// What a reply says.
 #[derive(Clone, Copy)]
-pub enum Said {
+pub enum ScheduleReply {
     /// What a move of a machine did, which is a lock or a semaphore.
     Step { is_lock: bool, step: Step },
     /// `at KIND`: the kind of the step that is next.
@@ -23,16 +23,16 @@ pub enum Said {
     Main(Word),
 }
 
-impl Reply for Said {
-    ghost use Rattle.saa_run.specs.ScheduleSaid.{said_words};
+impl ReplyWords for ScheduleReply {
+    ghost use Rattle.saa_run.specs.ScheduleReplies.{schedule_words};
 
-    ghost words = { said_words };
+    ghost words = { schedule_words };
 
     fn text(self) -> ReplyText {
         match self {
-            Said::Step { is_lock, step } => step_text(is_lock, step),
-            Said::At(kind) => joined("at ", kind_text(kind)),
-            Said::Main(word) => main_text(word),
+            ScheduleReply::Step { is_lock, step } => step_text(is_lock, step),
+            ScheduleReply::At(kind) => joined("at ", kind_text(kind)),
+            ScheduleReply::Main(word) => main_text(word),
         }
     }
 }
@@ -69,12 +69,13 @@ fn done_text(is_lock: bool, answer: Answer) -> ReplyText
 /// An answer that is taken, in a word: of a lock or of a semaphore.
 fn taken_text(is_lock: bool, is_granted: bool) -> &'static str
     ensures word { result.now ≡ taken_word is_lock is_granted }
-    ensures short { length result.now ≤ 5 }
+    ensures short { length result.now ≤ 6 }
 {
     match (is_lock, is_granted) {
         (true, true) => "true",
         (true, false) => "false",
-        (false, _) => "ok",
+        (false, true) => "ok",
+        (false, false) => "closed",
     }
 }
 

@@ -7,14 +7,14 @@ ghost use Rattle.std.specs.Prelude.{◌≡◌, ◌∷◌, [], ℕ, List};
 ghost use Rattle.std.specs.Option.{option_map, option_map_or};
 ghost use Rattle.saa_run.specs.Language.{Readings, ask_in, counted_call_in, lone_call_in};
 ghost use Rattle.saa_run.specs.Replies.{reply_words, no_ask, truth_poll};
-ghost use Rattle.saa_run.specs.ScriptSaid.{said_words};
+ghost use Rattle.saa_run.specs.ScriptReplies.{script_words};
 
-use crate::script::said::Said;
+use crate::script::reply::ScriptReply;
 use saa::bench::{Primitive, Reply, ReplyOf};
 use saa::ticket::Error;
 
-/// A primitive that scripts speak to.
-pub trait Spoken: Primitive {
+/// A primitive that scripts reply_to to.
+pub trait ScriptCore: Primitive {
     // How its lines are read, and the words of its calls' answers and of its polls'.
     ghost readings: { Readings Self.Call Self.Ask };
 
@@ -35,24 +35,24 @@ pub trait Spoken: Primitive {
         ensures { result ≡ ask_in readings (option_map (λ bytes. bytes.now) field.entry) };
 
     /// What a call's answer says.
-    fn said_answer(answer: Self::Answer) -> Said
-        ensures { said_words result ≡ answer_words answer };
+    fn answer_reply(answer: Self::Answer) -> ScriptReply
+        ensures { script_words result ≡ answer_words answer };
 
     /// What a poll's answer says.
-    fn said_poll(answer: Self::Value) -> Said
-        ensures { said_words result ≡ poll_words answer };
+    fn poll_reply(answer: Self::Value) -> ScriptReply
+        ensures { script_words result ≡ poll_words answer };
 }
 
 /// What a reply says.
-pub fn said<P: Spoken>(reply: Reply<P>) -> Said
-    ensures { said_words result ≡ reply_words P.answer_words P.poll_words reply }
+pub fn replied<P: ScriptCore>(reply: Reply<P>) -> ScriptReply
+    ensures { script_words result ≡ reply_words P.answer_words P.poll_words reply }
 {
     match reply {
-        ReplyOf::Answered(answer) => P::said_answer(answer),
-        ReplyOf::Registered(Ok(truth)) => Said::Truth(truth),
-        ReplyOf::Registered(Err(_)) => Said::Full,
-        ReplyOf::Polled(answer) => P::said_poll(answer),
-        ReplyOf::Dropped => Said::Dropped,
+        ReplyOf::Answered(answer) => P::answer_reply(answer),
+        ReplyOf::Registered(Ok(truth)) => ScriptReply::Truth(truth),
+        ReplyOf::Registered(Err(_)) => ScriptReply::Full,
+        ReplyOf::Polled(answer) => P::poll_reply(answer),
+        ReplyOf::Dropped => ScriptReply::Dropped,
     }
 }
 
@@ -67,11 +67,11 @@ pub fn nothing_asked(field: Option<&[u8]>) -> Option<()>
 }
 
 /// What a poll's answer says where it is a truth.
-pub fn said_truth(answer: Result<bool, Error>) -> Said
-    ensures { said_words result ≡ truth_poll answer }
+pub fn truth_reply(answer: Result<bool, Error>) -> ScriptReply
+    ensures { script_words result ≡ truth_poll answer }
 {
     match answer {
-        Ok(truth) => Said::Truth(truth),
-        Err(error) => Said::Refused(error),
+        Ok(truth) => ScriptReply::Truth(truth),
+        Err(error) => ScriptReply::Refused(error),
     }
 }

@@ -2,7 +2,7 @@ use Rattle.std.proofs.Common.{length, ap, sym, ◌∙◌}
 use Rattle.saa_run.specs.Schedules.{schedule_line_of}
 use Rattle.saa_run.specs.ScheduleLaws.{schedule-bad}
 use Rattle.saa_run.proofs.ScheduleLemmas.{schedule-good}
-use Rattle.saa_run.proofs.schedule.ScheduleSpeaker.speak.Goals as goal
+use Rattle.saa_run.proofs.schedule.ScheduleSession.reply_to.Goals as goal
 
 pub returns-in-None-clause-bad : goal.returns-in-None-clause-bad
 returns-in-None-clause-bad c =

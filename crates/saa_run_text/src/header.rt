@@ -9,7 +9,7 @@ use std::alloc::{AllocError, Global};
 use std::io::{Read, Write};
 
 /// The good first lines of a language.
-pub trait Opening: Copy {
+pub trait Header: Copy {
     // Which of them some bytes are, and what the lines behind it are answered.
     ghost reads: { List ℕ → Option Self };
 
