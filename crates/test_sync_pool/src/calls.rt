@@ -99,6 +99,46 @@ fn nothing_goes_out_where_all_are(rt: HostRuntime) {
     same!(rt; full, (refused, counted(0, 2, 0, 2, 0)));
 }
 
+// How many values of 500 a pool gives in turn to one caller that keeps them all.
+fn kept_in_turn<H: Wait>(pool: &Pool<'_, H, u64, 500>) -> u64 {
+    let mut kept = 0u64;
+    for number in 1..=500u64 {
+        if let Ok(checkout) = pool.try_check_out() {
+            kept = kept.wrapping_add(u64::from(checkout.keep() == number));
+        }
+    }
+    kept
+}
+
+// Gives 500 values back; how many the pool took.
+fn given_back<H: Wait>(pool: &Pool<'_, H, u64, 500>) -> u64 {
+    let mut given = 0u64;
+    for number in 1..=500u64 {
+        given = given.wrapping_add(u64::from(pool.give_back(number).is_ok()));
+    }
+    given
+}
+
+// How many of 500 values are kept and given back, what a try and a timed call are told while all are out, and the counts then and once all are back.
+fn five_hundred<H: Wait + Clock + RandomSource + AllocGlobal>(
+    rt: &H,
+) -> io::Result<([u64; 2], [Result<u64, Refused>; 2], [Counts; 2])> {
+    let pool = filled::<_, 500>(rt, rt.alloc(), 1)?;
+    let kept = kept_in_turn(&pool);
+    let told = [told(rt, &pool, Way::Try)?, told(rt, &pool, Way::For)?];
+    let all_out = pool.counts();
+    let given = given_back(&pool);
+    Ok(([kept, given], told, [all_out, pool.counts()]))
+}
+
+#[test]
+fn five_hundred_values_are_out_at_once(rt: HostRuntime) {
+    let told = five_hundred(&rt).expect(&rt, "a clock and memory");
+    let refused = [Err(Refused::WouldWait), Err(Refused::TooLate)];
+    let counts = [counted(0, 500, 500, 500, 1), counted(500, 0, 0, 500, 1)];
+    same!(rt; told, ([500, 500], refused, counts));
+}
+
 // Who may not wait is told so in the two ways that wait for ever too.
 fn no_room<H: Wait + Clock + RandomSource + AllocGlobal>(
     rt: &H,
