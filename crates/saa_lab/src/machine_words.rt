@@ -1,9 +1,9 @@
 //! The words of a machine's calls, answers, steps and kinds of step, as `saa-run machine` writes them.
 
 use crate::forms::Asks;
-use crate::reading::Said;
-use crate::spoken::lock::{mode_text, try_text};
-use crate::spoken::semaphore::error_text;
+use crate::reading::Request;
+use crate::script_core::lock::{mode_text, try_text};
+use crate::script_core::semaphore::error_text;
 use saa_core_words::word::Word;
 use saa_word::kind::Kind;
 use saa_word::moves::Step;
@@ -38,21 +38,21 @@ pub fn kind_text(kind: Kind) -> &'static str {
 }
 
 /// The call of a form in words that a line asks for; `None` where it is none of its kind.
-pub fn call_of(is_lock: bool, said: Said) -> Option<WordCall> {
-    match said.asks {
+pub fn call_of(is_lock: bool, request: Request) -> Option<WordCall> {
+    match request.asks {
         Asks::TryPoll => Some(WordCall::TryPoll),
         Asks::Poll => Some(WordCall::Poll),
         Asks::Cancel => Some(WordCall::Cancel),
-        _ if is_lock => lock_call(said),
-        _ => semaphore_call(said),
+        _ if is_lock => lock_call(request),
+        _ => semaphore_call(request),
     }
 }
 
-fn semaphore_call(said: Said) -> Option<WordCall> {
-    match said.asks {
-        Asks::Try => Some(WordCall::Try(said.count)),
-        Asks::Register => Some(WordCall::Register(said.count)),
-        Asks::Release => Some(WordCall::Release(said.count)),
+fn semaphore_call(request: Request) -> Option<WordCall> {
+    match request.asks {
+        Asks::Try => Some(WordCall::Try(request.count)),
+        Asks::Register => Some(WordCall::Register(request.count)),
+        Asks::Release => Some(WordCall::Release(request.count)),
         Asks::Available => Some(WordCall::Available),
         Asks::Shut => Some(WordCall::Shut),
         Asks::IsShut => Some(WordCall::IsShut),
@@ -60,11 +60,11 @@ fn semaphore_call(said: Said) -> Option<WordCall> {
     }
 }
 
-fn lock_call(said: Said) -> Option<WordCall> {
-    match said.asks {
+fn lock_call(request: Request) -> Option<WordCall> {
+    match request.asks {
         Asks::TryLock => Some(WordCall::TryLock),
         Asks::TryShare => Some(WordCall::TryShare),
-        Asks::Register => Some(WordCall::RegisterMode(said.mode)),
+        Asks::Register => Some(WordCall::RegisterMode(request.mode)),
         Asks::ReleaseLock => Some(WordCall::ReleaseLock),
         Asks::ReleaseShare => Some(WordCall::ReleaseShare),
         Asks::Downgrade => Some(WordCall::Downgrade),

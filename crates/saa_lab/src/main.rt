@@ -17,8 +17,8 @@ mod player;
 mod reading;
 mod report;
 mod scene;
+mod script_core;
 mod source;
-mod spoken;
 mod trouble;
 mod watched;
 

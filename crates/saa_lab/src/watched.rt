@@ -4,8 +4,8 @@
 //! until the core reports the wake of that slot, or it is dropped.
 
 use crate::forms::Asks;
-use crate::reading::Said;
-use crate::spoken::Spoken;
+use crate::reading::Request;
+use crate::script_core::ScriptCore;
 use saa_core::ticket::{Full, How, Ticket};
 use std::alloc::{AllocError, Global};
 
@@ -23,13 +23,13 @@ pub struct Waiter {
 
 /// A core and its pagers.
 #[derive(Drop)]
-pub struct Watched<P: Spoken> {
+pub struct Watched<P: ScriptCore> {
     core: P,
     tickets: Vec<Ticket>,
     queue: Vec<Waiter>,
 }
 
-impl<P: Spoken> Watched<P> {
+impl<P: ScriptCore> Watched<P> {
     /// A core with idle pagers.
     pub fn new(alloc: Global, core: P) -> Result<Watched<P>, AllocError> {
         let mut tickets = Vec::with_capacity(alloc, usize::from(PAGERS))?;
@@ -54,19 +54,19 @@ impl<P: Spoken> Watched<P> {
     }
 
     /// Does what a line says, and answers the reply.
-    pub fn reply(&mut self, alloc: Global, said: Said) -> Result<String, AllocError> {
-        match said.asks {
-            Asks::Register => self.register(alloc, said),
-            Asks::TryPoll => self.poll(alloc, said.pager, How::Try),
-            Asks::PollSync => self.poll(alloc, said.pager, How::Sync),
-            Asks::PollAsync => self.poll(alloc, said.pager, How::Async),
+    pub fn reply(&mut self, alloc: Global, request: Request) -> Result<String, AllocError> {
+        match request.asks {
+            Asks::Register => self.register(alloc, request),
+            Asks::TryPoll => self.poll(alloc, request.pager, How::Try),
+            Asks::PollSync => self.poll(alloc, request.pager, How::Sync),
+            Asks::PollAsync => self.poll(alloc, request.pager, How::Async),
             Asks::Registered => {
-                let is_registered = self.is_registered(said.pager);
+                let is_registered = self.is_registered(request.pager);
                 format!(in alloc; "{is_registered}")
             }
-            Asks::Drop => self.cancel(alloc, said.pager),
-            Asks::Leave => self.leave(alloc, said.pager),
-            _ => match P::call_of(said.asks, said.count) {
+            Asks::Drop => self.cancel(alloc, request.pager),
+            Asks::Leave => self.leave(alloc, request.pager),
+            _ => match P::call_of(request.asks, request.count) {
                 Some(call) => P::answer_text(alloc, self.core.call(call)),
                 None => Ok(String::new(alloc)),
             },
@@ -104,17 +104,17 @@ impl<P: Spoken> Watched<P> {
         u16::try_from(at).ok()
     }
 
-    fn register(&mut self, alloc: Global, said: Said) -> Result<String, AllocError> {
-        let ask = P::ask_of(said);
+    fn register(&mut self, alloc: Global, request: Request) -> Result<String, AllocError> {
+        let ask = P::ask_of(request);
         let asks = P::ask_text(alloc, ask)?;
-        let Some(ticket) = self.tickets.get_mut(usize::from(said.pager)) else {
+        let Some(ticket) = self.tickets.get_mut(usize::from(request.pager)) else {
             return Ok(String::new(alloc));
         };
         let was_registered = ticket.is_registered();
-        let reply = self.core.register(ticket, ask, said.is_sync);
+        let reply = self.core.register(ticket, ask, request.is_sync);
         if !was_registered && ticket.slot().is_some() {
             self.queue.push(Waiter {
-                pager: said.pager,
+                pager: request.pager,
                 asks,
             })?;
         }

@@ -1,4 +1,4 @@
-//! What a script can say to a primitive, and the words for what that answers.
+//! A core as scripts call it: the forms of its lines, and the words for what it answers.
 
 pub mod barrier;
 pub mod gate;
@@ -6,12 +6,12 @@ pub mod lock;
 pub mod semaphore;
 
 use crate::forms::{Asks, Form};
-use crate::reading::Said;
+use crate::reading::Request;
 use saa_core::primitive::Primitive;
 use std::alloc::{AllocError, Global};
 
-/// A primitive whose core scripts can speak to.
-pub trait Spoken: Primitive {
+/// A primitive whose core scripts call.
+pub trait ScriptCore: Primitive {
     /// What one is called, as `a semaphore`.
     fn owner() -> &'static str;
 
@@ -22,7 +22,7 @@ pub trait Spoken: Primitive {
     fn call_of(asks: Asks, count: usize) -> Option<Self::Call>;
 
     /// What a registration asks.
-    fn ask_of(said: Said) -> Self::Ask;
+    fn ask_of(request: Request) -> Self::Ask;
 
     /// What a registration asks, in words.
     fn ask_text(alloc: Global, ask: Self::Ask) -> Result<String, AllocError>;

@@ -1,15 +1,15 @@
-//! What is said to a barrier.
+//! A barrier as scripts call it.
 
 use crate::forms::{Asks, Form, OF_A_BARRIER};
-use crate::reading::Said;
-use crate::spoken::Spoken;
-use crate::spoken::semaphore::error_text;
+use crate::reading::Request;
+use crate::script_core::ScriptCore;
+use crate::script_core::semaphore::error_text;
 use saa_core::barrier::{BarrierAnswer, BarrierCall, BarrierCore};
 use saa_core::primitive::Primitive;
 use saa_core::ticket::Error;
 use std::alloc::{AllocError, Global};
 
-impl Spoken for BarrierCore {
+impl ScriptCore for BarrierCore {
     fn owner() -> &'static str {
         "a barrier"
     }
@@ -29,7 +29,7 @@ impl Spoken for BarrierCore {
         }
     }
 
-    fn ask_of(_said: Said) {}
+    fn ask_of(_request: Request) {}
 
     fn ask_text(alloc: Global, _ask: ()) -> Result<String, AllocError> {
         Ok(String::new(alloc))

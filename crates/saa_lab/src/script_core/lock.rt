@@ -1,16 +1,16 @@
-//! What is said to a lock.
+//! A lock as scripts call it.
 
 use crate::forms::{Asks, Form, OF_A_LOCK};
-use crate::reading::Said;
-use crate::spoken::Spoken;
-use crate::spoken::semaphore::error_text;
+use crate::reading::Request;
+use crate::script_core::ScriptCore;
+use crate::script_core::semaphore::error_text;
 use saa_core::lock::{LockAnswer, LockCall, LockCore, Mode, TryLockError};
 use saa_core::primitive::Primitive;
 use saa_core::ticket::Error;
 use saa_core_words::word::Word;
 use std::alloc::{AllocError, Global};
 
-impl Spoken for LockCore {
+impl ScriptCore for LockCore {
     fn owner() -> &'static str {
         "a lock"
     }
@@ -36,8 +36,8 @@ impl Spoken for LockCore {
         }
     }
 
-    fn ask_of(said: Said) -> Mode {
-        said.mode
+    fn ask_of(request: Request) -> Mode {
+        request.mode
     }
 
     fn ask_text(alloc: Global, ask: Mode) -> Result<String, AllocError> {

@@ -1,13 +1,13 @@
-//! What is said to a gate.
+//! A gate as scripts call it.
 
 use crate::forms::{Asks, Form, OF_A_GATE};
-use crate::reading::Said;
-use crate::spoken::Spoken;
+use crate::reading::Request;
+use crate::script_core::ScriptCore;
 use saa_core::gate::{Error, GateAnswer, GateCall, GateCore, State};
 use saa_core::primitive::Primitive;
 use std::alloc::{AllocError, Global};
 
-impl Spoken for GateCore {
+impl ScriptCore for GateCore {
     fn owner() -> &'static str {
         "a gate"
     }
@@ -29,7 +29,7 @@ impl Spoken for GateCore {
         }
     }
 
-    fn ask_of(_said: Said) {}
+    fn ask_of(_request: Request) {}
 
     fn ask_text(alloc: Global, _ask: ()) -> Result<String, AllocError> {
         Ok(String::new(alloc))

@@ -1,14 +1,14 @@
-//! What is said to a semaphore.
+//! A semaphore as scripts call it.
 
 use crate::forms::{Asks, Form, OF_A_SEMAPHORE};
-use crate::reading::Said;
-use crate::spoken::Spoken;
+use crate::reading::Request;
+use crate::script_core::ScriptCore;
 use saa_core::primitive::Primitive;
 use saa_core::semaphore::{SemaphoreAnswer, SemaphoreCall, SemaphoreCoreOf};
 use saa_core::ticket::Error;
 use std::alloc::{AllocError, Global};
 
-impl<const MAX: usize> Spoken for SemaphoreCoreOf<MAX> {
+impl<const MAX: usize> ScriptCore for SemaphoreCoreOf<MAX> {
     fn owner() -> &'static str {
         "a semaphore"
     }
@@ -30,8 +30,8 @@ impl<const MAX: usize> Spoken for SemaphoreCoreOf<MAX> {
         }
     }
 
-    fn ask_of(said: Said) -> usize {
-        said.count
+    fn ask_of(request: Request) -> usize {
+        request.count
     }
 
     fn ask_text(alloc: Global, ask: usize) -> Result<String, AllocError> {
