@@ -1,11 +1,13 @@
-//! Worked rows of each core, of the queue under them, and of words, beside what the contracts say of every run; and what threads made
-//! together under a journal.
+//! Worked rows of each core, of the queue under them, and of words, beside what the contracts say of every run; lists of moves beside a plain model,
+//! written apart from the definitions; and what threads made together under a journal.
 #![tactic(auto)]
 
 #[cfg(test)]
 mod barrier;
 #[cfg(test)]
 mod bench;
+#[cfg(test)]
+mod beside;
 #[cfg(test)]
 mod gate;
 #[cfg(test)]
@@ -14,6 +16,8 @@ mod journal;
 mod line;
 #[cfg(test)]
 mod lock;
+#[cfg(test)]
+mod model;
 #[cfg(test)]
 mod numbers;
 #[cfg(test)]

@@ -2,14 +2,17 @@
 //! print.
 
 use crate::widths::{Fewest, Most, fewest, most};
-use saa_core::Primitive;
 use saa_core::barrier::BarrierCore;
+use saa_core::gate::GateCore;
 use saa_core::lock::LockCore;
 use saa_core::semaphore::{SemaphoreCore, SemaphoreCoreOf};
-use saa_core::ticket::{Error, Full, How, Ticket};
+use saa_core::ticket::{How, Ticket};
+use std::alloc::{AllocError, Global};
 use std::test::Fail;
 use test_asserts::same;
-use test_language::cores::first_failed;
+use test_language::cores::{Core, first_failed};
+use test_language::language::{Call, Failed, Subject, moves_of};
+use test_language::reply::{Replies, Reply, ReplyWord, word};
 use test_language::worked;
 
 const STORIES: &str = "\
@@ -98,11 +101,9 @@ reg 0 sync; join; reg 1 sync; next -> none; leave_barrier; next -> 1; next -> 0;
 barrier 0 2
 reg 0 sync; reg 1 sync; leave_barrier -> false; next -> none; join; next -> 1; next -> 0; next -> none; poll_number 0 -> 0; poll_number 1 -> 0
 
-# Counts far above the bound change nothing.
-semaphore 100 4
-available -> 63; try 64 -> false; reg 0 64 sync -> false; release 64 -> false; try 255 -> false; reg 0 255 sync -> false; release 255 -> false
-try 256 -> false; reg 0 256 sync -> false; release 256 -> false; try 18446744073709551615 -> false; reg 0 18446744073709551615 sync -> false
-release 18446744073709551615 -> false; available -> 63
+# A waiter for no permits gives none back as it is dropped.
+semaphore 63 4
+try 63; reg 0 0 sync; cancel 0; available -> 0
 
 # An owner becomes a sharer, and those in front share beside it.
 lock 4
@@ -171,35 +172,75 @@ fn each_core_has_its_bound(rt: HostRuntime) -> Result<(), Fail> {
     Ok(())
 }
 
-// A ticket that waits at one core is polled and cancelled at another: what each tells, in order.
-fn beside_another(
-    own: &mut SemaphoreCore,
-    other: &mut SemaphoreCore,
-    ticket: &mut Ticket,
-) -> ([Result<(), Error>; 3], bool) {
-    let polls = [
-        other.poll(ticket, How::Sync),
-        own.poll(ticket, How::Async),
-        own.poll(ticket, How::Sync),
-    ];
-    other.cancel(ticket);
-    (polls, ticket.is_registered())
+// A ticket that waits at one core moves at another, which `t1` says here: it is nothing there, and once it is cancelled there, its slot is held at the
+// core that it left unasked, and is answered there.
+const BESIDE_A_SEMAPHORE: &str = "\
+reg 0 1 sync; t1 poll_sync 0 -> not_registered; t1 reg 0 1 sync -> false; poll_async 0 -> wrong_mode; poll_sync 0 -> not_ready; t1 cancel 0
+registered 0 -> false; t1 available -> 63; release; available -> 0; reg 0 1 sync -> full; registered 0 -> false";
+
+const BESIDE_A_LOCK: &str = "\
+try_lock; reg 0 exclusive async; t1 poll_async 0 -> not_registered; t1 reg 0 exclusive async -> false; poll_async 0 -> not_ready; t1 cancel 0
+registered 0 -> false; t1 is_free; release_lock; is_locked; reg 0 shared sync -> full";
+
+const BESIDE_A_GATE: &str = "\
+reg 0 sync; t1 poll_sync 0 -> not_registered; poll_sync 0 -> not_ready; t1 cancel 0; registered 0 -> false; permit -> ok 1; reg 0 sync -> full";
+
+const BESIDE_A_BARRIER: &str = "\
+reg 0 sync; t1 poll_sync 0 -> not_registered; poll_sync 0 -> not_ready; t1 cancel 0; registered 0 -> false; t1 count -> 3; count -> 2
+reg 0 sync -> full";
+
+// Makes a move with the ticket.
+fn answer<C: Core>(core: &mut C, ticket: &mut Ticket, call: &Call<'_>) -> Reply {
+    match call.verb {
+        "reg" => core.enroll(ticket, call).reply(),
+        "poll_sync" => core.polled(ticket, How::Sync),
+        "poll_async" => core.polled(ticket, How::Async),
+        "registered" => ticket.is_registered().reply(),
+        "cancel" => {
+            core.cancel(ticket);
+            word(ReplyWord::Dropped)
+        }
+        _ => core.answer(call),
+    }
 }
 
-// Its slot is held at the core that it left unasked, which is granted there.
+// The first row that is answered otherwise at a core beside another.
+fn other_beside<C: Core>(
+    alloc: Global,
+    (mut own, mut other): (C, C),
+    story: &'static str,
+) -> Result<Option<Failed<'static>>, AllocError> {
+    let mut ticket = Ticket::new();
+    for row in moves_of(alloc, story)?.iter() {
+        let answered = if row.call.subject == Subject::Thread(0) {
+            answer(&mut other, &mut ticket, &row.call)
+        } else {
+            answer(&mut own, &mut ticket, &row.call)
+        };
+        let failed = Failed::unless(row, answered);
+        if failed.is_some() {
+            return Ok(failed);
+        }
+    }
+    Ok(None)
+}
+
 #[test]
 fn a_ticket_is_nothing_to_another_core(rt: HostRuntime) -> Result<(), Fail> {
-    let mut own = SemaphoreCore::with_permits(rt.alloc(), 0, 1)?;
-    let mut other = SemaphoreCore::new(rt.alloc(), 1)?;
-    let mut ticket = Ticket::new();
-    same!(rt; own.register(&mut ticket, 1, true), Ok(true));
-    let polls = [
-        Err(Error::NotRegistered),
-        Err(Error::WrongMode),
-        Err(Error::NotReady),
-    ];
-    same!(rt; beside_another(&mut own, &mut other, &mut ticket), (polls, false));
-    same!(rt; (own.release(), own.available_permits()), (true, 0));
-    same!(rt; own.register(&mut Ticket::new(), 1, true), Err(Full));
+    let alloc = rt.alloc();
+    let semaphores = (
+        SemaphoreCore::with_permits(alloc, 0, 1)?,
+        SemaphoreCore::new(alloc, 1)?,
+    );
+    same!(rt; other_beside(alloc, semaphores, BESIDE_A_SEMAPHORE)?, None);
+    let locks = (LockCore::new(alloc, 1)?, LockCore::new(alloc, 1)?);
+    same!(rt; other_beside(alloc, locks, BESIDE_A_LOCK)?, None);
+    let gates = (GateCore::new(alloc, 1)?, GateCore::new(alloc, 1)?);
+    same!(rt; other_beside(alloc, gates, BESIDE_A_GATE)?, None);
+    let barriers = (
+        BarrierCore::with_count(alloc, 3, 1)?,
+        BarrierCore::with_count(alloc, 3, 1)?,
+    );
+    same!(rt; other_beside(alloc, barriers, BESIDE_A_BARRIER)?, None);
     Ok(())
 }

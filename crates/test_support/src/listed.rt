@@ -1,7 +1,7 @@
 //! A semaphore whose queue is a list, in which a waiter that leaves is searched for: the plain slow one beside the core.
 //!
-//! It is no product. Tests give it what they give the core, which keeps its queue by links, and compare every reply; `measure`
-//! times it beside the core. Asking, settling and dropping are the core's own (`granting` of `saa_core`): what differs is the queue.
+//! It is no product: `measure` times it beside the core, which keeps its queue by links. Asking and settling are the core's own (`granting` of
+//! `saa_core`): what differs is the queue.
 
 ghost use Rattle.std.specs.Prelude.{◌≡◌, ◌≤◌, false, if◌then◌else◌, nat_lt};
 ghost use Rattle.saa_core_spec.specs.declared.request.Request.TheVariants.{Permits};
@@ -31,11 +31,6 @@ impl ListedSemaphore {
         Ok(ListedSemaphore {
             core: Granting::from_parts(PermitsOut { out: 0 }, line),
         })
-    }
-
-    /// How many permits are available.
-    pub fn available_permits(&self) -> usize {
-        PERMITS - self.core.needs().out
     }
 
     /// Takes so many permits if there is no waiter and they are available.
@@ -73,11 +68,6 @@ impl ListedSemaphore {
             Ok(_granted) => Ok(()),
             Err(error) => Err(error),
         }
-    }
-
-    /// Drops what a ticket is registered for.
-    pub fn cancel(&mut self, ticket: &mut Ticket) {
-        self.core.cancel(ticket);
     }
 
     /// Takes out the oldest pending wake, and reports its slot.
