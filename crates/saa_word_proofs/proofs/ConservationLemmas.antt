@@ -7,10 +7,11 @@ use Rattle.saa_core_spec.specs.Values.{closed_value, granted_value}
 use Rattle.saa_core_spec.proofs.Counts.{one_if-le, same_number, other_number, times-append, times-take_drop, times-without_same, times-without_other}
 use Rattle.saa_word_steps.specs.Needs.{Needs, left_count, permit_needs}
 use Rattle.saa_word_steps.specs.declared.event.Event.{Event}
-use Rattle.saa_word_steps.specs.declared.event.Event.TheVariants.{Acquired, Refused, Joined, Released, ReleasedNothing, Lowered, NotLowered, AskedPoisoned, Cancelled, Closed, Poisoned, NotPoisoned, Cleared, NotCleared, NotReady, Granted, Showed, AnswerTaken, Read}
+use Rattle.saa_word_steps.specs.declared.event.Event.TheVariants.{Acquired, Joined, Released, Lowered, AskedPoisoned, Cancelled, Closed, Poisoned, Cleared, Granted, Showed, AnswerTaken}
 use Rattle.saa_word_steps.specs.AbstractState.{AbstractState, IsEnabled, after_event, IsRun, opening, is_in, takes_of, answered_with, with_answer, held_by}
-use Rattle.saa_word_steps.proofs.AbstractRuns.{run-keeps, run-once, waits-none, waits-some}
+use Rattle.saa_word_steps.proofs.AbstractRuns.{run-keeps, waits-none, waits-some}
 use Rattle.saa_word_proofs.proofs.RefinementLemmas.Lists.{takes-append}
+use Rattle.saa_word_proofs.proofs.OrderLemmas.{once-kept}
 use Rattle.saa_word_proofs.specs.Conservation.{Tally, nothing_yet, line_of_place, after_counting, tallied, tally_of, ConservesPermits, IsTold, is_grant, shuts, is_of_permits, AreOfPermitsFrom}
 
 -- what each event keeps of state and tally every run keeps
@@ -55,31 +56,19 @@ balanced-step : (bound withheld : ℕ) (state : AbstractState) (tally : Tally) (
     → IsEnabled (permit_needs bound) state place event → ConservesPermits (permit_needs bound) withheld state tally
     → ConservesPermits (permit_needs bound) withheld (after_event (permit_needs bound) state place event) (after_counting (permit_needs bound) state tally place event)
 balanced-step bound withheld state tally place (Acquired request) allowed was = omega (arith, was)
-balanced-step bound withheld state tally place (Refused request) allowed was = was
-balanced-step bound withheld state tally place (Joined request) allowed was = was
 balanced-step bound withheld state tally place (Released request) allowed was =
     let back = permits-back bound state.count request allowed.1.0 allowed.1.1 in
     rw allowed.1.1 (omega (arith, was, back))
-balanced-step bound withheld state tally place (ReleasedNothing request) allowed was = was
 balanced-step bound withheld state tally place Lowered allowed was = (let wrong : false ≡ true = allowed.2 in absurd (cc))
-balanced-step bound withheld state tally place NotLowered allowed was = was
-balanced-step bound withheld state tally place AskedPoisoned allowed was = was
-balanced-step bound withheld state tally place Cancelled allowed was = was
 balanced-step bound withheld state tally place (Granted askers) allowed was =
     omega (arith, was, takes-append (permit_needs bound) tally.pending (take askers state.line))
-balanced-step bound withheld state tally place Closed allowed was = was
-balanced-step bound withheld state tally place Poisoned allowed was = was
-balanced-step bound withheld state tally place NotPoisoned allowed was = was
 balanced-step bound withheld state tally place Cleared allowed was = (let wrong : false ≡ true = allowed.1 in absurd (cc))
-balanced-step bound withheld state tally place NotCleared allowed was = was
-balanced-step bound withheld state tally place NotReady allowed was = was
-balanced-step bound withheld state tally place (Showed shown_place) allowed was = was
 balanced-step bound withheld state tally place (AnswerTaken value) allowed was =
     elim (cases_Bool (value == granted_value)) [
       | inl granted ↦ rw granted (omega (arith, was, takes-parts (permit_needs bound) place tally.pending))
       | inr other ↦ rw other was
     ]
-balanced-step bound withheld state tally place (Read count poisoned) allowed was = was
+balanced-step bound withheld state tally place _ allowed was = was
 
 pub run-balanced : (bound withheld : ℕ) (events : List (ℕ × Event)) (last : AbstractState)
     → IsRun (permit_needs bound) (opening withheld) events last
@@ -99,12 +88,6 @@ grant-le (Some value) = omega (arith, one_if-le (value == granted_value))
 pub record ArePending (state : AbstractState) (tally : Tally) : Type 0 where
   pub once : (place : ℕ) → held_by place state ≤ 1
   pub pending : (place : ℕ) → times place tally.pending ≡ one_if (is_grant (state.due place)) + one_if (is_grant (state.shown place))
-
--- one event keeps that each place is held once
-once-kept : (needs : Needs) (state : AbstractState) (place : ℕ) (event : Event) → IsEnabled needs state place event
-    → ((other : ℕ) → held_by other state ≤ 1) → (other : ℕ) → held_by other (after_event needs state place event) ≤ 1
-once-kept needs state place event allowed was =
-    run-once needs state ((place, event) ∷ []) (after_event needs state place event) (allowed, refl) was
 
 -- a grant is taken, and counts no more; and so it is of another answer, which never counted
 taken-grant : (needs : Needs) (state : AbstractState) (tally : Tally) (place value : ℕ) → state.shown place ≡ Some value → ArePending state tally → (other : ℕ)
@@ -139,15 +122,6 @@ pending-step : (needs : Needs) (state : AbstractState) (tally : Tally) (place : 
     → ArePending state tally → (other : ℕ)
     → times other (after_counting needs state tally place event).pending
     ≡ one_if (is_grant ((after_event needs state place event).due other)) + one_if (is_grant ((after_event needs state place event).shown other))
-pending-step needs state tally place (Acquired request) allowed was other = was.pending other
-pending-step needs state tally place (Refused request) allowed was other = was.pending other
-pending-step needs state tally place (Joined request) allowed was other = was.pending other
-pending-step needs state tally place (Released request) allowed was other = was.pending other
-pending-step needs state tally place (ReleasedNothing request) allowed was other = was.pending other
-pending-step needs state tally place Lowered allowed was other = was.pending other
-pending-step needs state tally place NotLowered allowed was other = was.pending other
-pending-step needs state tally place AskedPoisoned allowed was other = was.pending other
-pending-step needs state tally place Cancelled allowed was other = was.pending other
 pending-step needs state tally place (Granted askers) allowed was other =
     let line = times-append other tally.pending (take askers state.line) in
     let parts = times-take_drop other askers state.line in
@@ -164,17 +138,12 @@ pending-step needs state tally place (Granted askers) allowed was other =
       ))
       | inr out ↦ rw out (omega (arith, was.pending other, line, waits-none other (take askers state.line) out))
     ]
-pending-step needs state tally place Closed allowed was other = was.pending other
 pending-step needs state tally place Poisoned allowed was other =
     elim (cases_Bool (is_in other state.line)) [
       | inl some ↦ rw some
           (omega (arith, was.pending other, was.once other, grant-le (state.due other), grant-le (state.shown other), waits-some other state.line some))
       | inr out ↦ rw out (was.pending other)
     ]
-pending-step needs state tally place NotPoisoned allowed was other = was.pending other
-pending-step needs state tally place Cleared allowed was other = was.pending other
-pending-step needs state tally place NotCleared allowed was other = was.pending other
-pending-step needs state tally place NotReady allowed was other = was.pending other
 pending-step needs state tally place (Showed shown_place) allowed was other =
     elim (cases_Bool (other == shown_place)) [
       | inl same ↦
@@ -189,7 +158,7 @@ pending-step needs state tally place (AnswerTaken value) allowed was other =
       | inl granted ↦ rw granted (taken-grant needs state tally place value allowed was other)
       | inr told ↦ rw told (taken-other needs state tally place value told allowed was other)
     ]
-pending-step needs state tally place (Read count poisoned) allowed was other = was.pending other
+pending-step needs state tally place _ allowed was other = was.pending other
 
 pub run-pending : (needs : Needs) (withheld : ℕ) (events : List (ℕ × Event)) (last : AbstractState)
     → IsRun needs (opening withheld) events last → ArePending last (tally_of needs withheld events)
@@ -238,13 +207,9 @@ changed-told poisoned at answer answers was here place value =
 granted-step : (needs : Needs) → needs.is_lock ≡ false → (state : AbstractState) (place : ℕ) (event : Event) → IsEnabled needs state place event
     → AreGranted state → AreGranted (after_event needs state place event)
 granted-step needs semaphore state place (Acquired request) allowed was = record { due = was.due; shown = was.shown }
-granted-step needs semaphore state place (Refused request) allowed was = was
 granted-step needs semaphore state place (Joined request) allowed was = record { due = was.due; shown = was.shown }
 granted-step needs semaphore state place (Released request) allowed was = record { due = was.due; shown = was.shown }
-granted-step needs semaphore state place (ReleasedNothing request) allowed was = was
 granted-step needs semaphore state place Lowered allowed was = record { due = was.due; shown = was.shown }
-granted-step needs semaphore state place NotLowered allowed was = was
-granted-step needs semaphore state place AskedPoisoned allowed was = was
 granted-step needs semaphore state place Cancelled allowed was = record { due = was.due; shown = was.shown }
 granted-step needs semaphore state place (Granted askers) allowed was =
     record { due = answered-told state.poisoned 0 (take askers state.line) state.due (inl refl) was.due; shown = was.shown }
@@ -253,17 +218,14 @@ granted-step needs semaphore state place Poisoned allowed was = record {
   due = answered-told true 2 state.line state.due (inr (refl, refl)) (told-shut state.poisoned state.due was.due);
   shown = told-shut state.poisoned state.shown was.shown;
 }
-granted-step needs semaphore state place NotPoisoned allowed was = was
 granted-step needs semaphore state place Cleared allowed was = (let wrong : true ≡ false = sym allowed.1 ∙ semaphore in absurd (cc))
-granted-step needs semaphore state place NotCleared allowed was = was
-granted-step needs semaphore state place NotReady allowed was = was
 granted-step needs semaphore state place (Showed shown_place) allowed was = record {
   due = changed-told state.poisoned shown_place None state.due was.due (λ value is. absurd (cc));
   shown = changed-told state.poisoned shown_place (state.due shown_place) state.shown was.shown (was.due shown_place);
 }
 granted-step needs semaphore state place (AnswerTaken value) allowed was =
     record { due = was.due; shown = changed-told state.poisoned place None state.shown was.shown (λ value is. absurd (cc)) }
-granted-step needs semaphore state place (Read count poisoned) allowed was = was
+granted-step needs semaphore state place _ allowed was = was
 
 pub opening-granted : (count : ℕ) → AreGranted (opening count)
 opening-granted count = record { due = λ place value is. absurd (cc); shown = λ place value is. absurd (cc) }
@@ -287,24 +249,8 @@ or-true false = refl
 shut-step : (needs : Needs) → needs.is_lock ≡ false → (state : AbstractState) (place : ℕ) (event : Event) → IsEnabled needs state place event
     → (after_event needs state place event).poisoned ≡ (state.poisoned || shuts event)
 shut-step needs semaphore state place Poisoned allowed = or-true state.poisoned
-shut-step needs semaphore state place (Acquired request) allowed = or-false state.poisoned
-shut-step needs semaphore state place (Refused request) allowed = or-false state.poisoned
-shut-step needs semaphore state place (Joined request) allowed = or-false state.poisoned
-shut-step needs semaphore state place (Released request) allowed = or-false state.poisoned
-shut-step needs semaphore state place (ReleasedNothing request) allowed = or-false state.poisoned
-shut-step needs semaphore state place Lowered allowed = or-false state.poisoned
-shut-step needs semaphore state place NotLowered allowed = or-false state.poisoned
-shut-step needs semaphore state place AskedPoisoned allowed = or-false state.poisoned
-shut-step needs semaphore state place Cancelled allowed = or-false state.poisoned
-shut-step needs semaphore state place (Granted askers) allowed = or-false state.poisoned
-shut-step needs semaphore state place Closed allowed = or-false state.poisoned
-shut-step needs semaphore state place NotPoisoned allowed = or-false state.poisoned
 shut-step needs semaphore state place Cleared allowed = (let wrong : true ≡ false = sym allowed.1 ∙ semaphore in absurd (cc))
-shut-step needs semaphore state place NotCleared allowed = or-false state.poisoned
-shut-step needs semaphore state place NotReady allowed = or-false state.poisoned
-shut-step needs semaphore state place (Showed shown_place) allowed = or-false state.poisoned
-shut-step needs semaphore state place (AnswerTaken value) allowed = or-false state.poisoned
-shut-step needs semaphore state place (Read count poisoned) allowed = or-false state.poisoned
+shut-step needs semaphore state place _ allowed = or-false state.poisoned
 
 -- what a place may be told
 told-test : (poisoned : Bool) (value : ℕ) → IsTold poisoned value → ((value == granted_value) || (poisoned && (value == closed_value))) ≡ true
@@ -317,24 +263,11 @@ told-test poisoned value told = elim told [
 permits-step : (needs : Needs) → needs.is_lock ≡ false → (state : AbstractState) (place : ℕ) (event : Event) → IsEnabled needs state place event
     → AreGranted state → is_of_permits state.poisoned event ≡ true
 permits-step needs semaphore state place Poisoned allowed was = ap not allowed.1.0
-permits-step needs semaphore state place (Acquired request) allowed was = refl
-permits-step needs semaphore state place (Refused request) allowed was = refl
-permits-step needs semaphore state place (Joined request) allowed was = refl
-permits-step needs semaphore state place (Released request) allowed was = refl
-permits-step needs semaphore state place (ReleasedNothing request) allowed was = refl
 permits-step needs semaphore state place Lowered allowed was = (let wrong : true ≡ false = sym allowed.2 ∙ semaphore in absurd (cc))
-permits-step needs semaphore state place NotLowered allowed was = refl
 permits-step needs semaphore state place AskedPoisoned allowed was = allowed
-permits-step needs semaphore state place Cancelled allowed was = refl
-permits-step needs semaphore state place (Granted askers) allowed was = refl
-permits-step needs semaphore state place Closed allowed was = refl
-permits-step needs semaphore state place NotPoisoned allowed was = refl
 permits-step needs semaphore state place Cleared allowed was = (let wrong : true ≡ false = sym allowed.1 ∙ semaphore in absurd (cc))
-permits-step needs semaphore state place NotCleared allowed was = refl
-permits-step needs semaphore state place NotReady allowed was = refl
-permits-step needs semaphore state place (Showed shown_place) allowed was = refl
 permits-step needs semaphore state place (AnswerTaken value) allowed was = told-test state.poisoned value (was.shown place value allowed)
-permits-step needs semaphore state place (Read count poisoned) allowed was = refl
+permits-step needs semaphore state place _ allowed was = refl
 
 pub run-permits : (needs : Needs) → needs.is_lock ≡ false → (state : AbstractState) (events : List (ℕ × Event)) (last : AbstractState)
     → AreGranted state → IsRun needs state events last → AreOfPermitsFrom state.poisoned events

@@ -10,7 +10,7 @@ use Rattle.saa_word_steps.specs.declared.event.Event.{Event}
 use Rattle.saa_word_steps.specs.declared.event.Event.TheVariants.{Acquired, Joined, Cancelled, Granted, Poisoned, Showed, AnswerTaken}
 use Rattle.saa_word_steps.specs.AbstractState.{AbstractState, IsEnabled, after_event, IsRun, opening, is_in, answered_with, held_by}
 use Rattle.saa_word_steps.proofs.AbstractRuns.{run-once, waits-none, waits-some}
-use Rattle.saa_word_proofs.proofs.RefinementLemmas.Lists.{in-none, in-append}
+use Rattle.saa_word_proofs.proofs.RefinementLemmas.Lists.{neither, in-none, in-append}
 use Rattle.saa_word_proofs.specs.History.{part_of}
 use Rattle.saa_word_proofs.specs.Order.{queue_after, waiting_from, waiting, Answer, each_with, answers_by, answers_from, answers, answered, values_of, cancels, joins, taken, joined_by, joined, is_show_of, shows, TakesInOrder}
 
@@ -19,10 +19,6 @@ swapped_true m n h = grind (arith, nat_tests)
 
 swapped_false : (m n : ℕ) → m == n ≡ false → n == m ≡ false
 swapped_false m n h = grind (arith, nat_tests)
-
-neither : (one other : Bool) → one || other ≡ false → (one ≡ false) × (other ≡ false)
-neither true other is = absurd (cc)
-neither false other is = (refl, is)
 
 -- Runs
 

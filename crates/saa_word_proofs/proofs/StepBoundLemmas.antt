@@ -1,15 +1,6 @@
 pub mod Bounds
 pub mod Ways
 pub mod Lines
-pub mod Nexts
-pub mod Cuts
-pub mod Leaves
-pub mod LoweredAsking
-pub mod LoweredWalking
-pub mod LoweredShowing
-pub mod LoweredLeaving
-pub mod LoweredPoison
 pub mod Lowered
-pub mod Stores
 pub mod Kept
 pub mod Counted

@@ -4,7 +4,7 @@ use Rattle.std.proofs.lemmas.Bool.{cases_Bool}
 use Rattle.saa_core_spec.specs.Object.{one_if, without}
 use Rattle.saa_core_spec.proofs.Counts.{number_same, same_number}
 use Rattle.saa_word_steps.specs.declared.event.Event.{Event}
-use Rattle.saa_word_steps.specs.declared.event.Event.TheVariants.{Acquired, Refused, Joined, Released, ReleasedNothing, Lowered, NotLowered, AskedPoisoned, Cancelled, Closed, Poisoned, NotPoisoned, Cleared, NotCleared, NotReady, Granted, Showed, AnswerTaken, Read}
+use Rattle.saa_word_steps.specs.declared.event.Event.TheVariants.{Acquired, Joined, Released, Lowered, Cancelled, Closed, Poisoned, Cleared, Granted, Showed, AnswerTaken}
 use Rattle.saa_word_steps.specs.Needs.{Needs, fits_count, left_count}
 use Rattle.saa_word_steps.specs.AbstractState.{AbstractState, IsEnabled, IsFront, IsRun, after_event, answered_with, count_or, held_by, is_empty, is_in, opening, takes_of, with_answer}
 use Rattle.saa_word_proofs.specs.Turns.{AreTurns, AreTurnsFrom, IsOfTurns, IsWhole, NobodyIsAnswered, begins_turn, is_taken, is_taken_after, is_taken_from}
@@ -13,6 +13,10 @@ use Rattle.saa_word_proofs.proofs.OrderLemmas.{AreOnce, once-kept, opening-once,
 -- a place is granted, and hasn't taken its answer
 abbrev pub IsGrantedAt : AbstractState → ℕ → Type 0
 IsGrantedAt state place = (state.due place ≡ Some 0) ⊎ (state.shown place ≡ Some 0)
+
+-- an answer is a grant, if there is one
+abbrev pub MayBe : Option ℕ → Type 0
+MayBe answer = (answer ≡ None) ⊎ (answer ≡ Some 0)
 
 none-some : (value : ℕ) → ◌≡◌ {A = Option ℕ} None (Some value) → ⊥
 none-some value is = let wrong : false ≡ true = ap is_some is in absurd (cc)
@@ -72,7 +76,7 @@ module _ (needs : Needs) (whole : ℕ) (w : IsWhole needs whole) where
   -- The whole is held exactly while a turn is taken or one is granted, and of both there is one at most
   pub record InTurns (taken : Bool) (state : AbstractState) : Type 0 where
     pub asks : AskWhole whole state.line
-    pub says : (place : ℕ) → ((state.due place ≡ None) ⊎ (state.due place ≡ Some 0)) × ((state.shown place ≡ None) ⊎ (state.shown place ≡ Some 0))
+    pub says : (place : ℕ) → MayBe (state.due place) × MayBe (state.shown place)
     pub gone : taken ≡ true → (state.count ≡ needs.takes whole) × ((place : ℕ) → IsGrantedAt state place → ⊥)
     pub granted : (place : ℕ) → IsGrantedAt state place → state.count ≡ needs.takes whole
     pub one : (place other : ℕ) → IsGrantedAt state place → IsGrantedAt state other → place ≡ other
@@ -156,11 +160,7 @@ module _ (needs : Needs) (whole : ℕ) (w : IsWhole needs whole) where
           says = λ place. (
             elim (cases_Bool (is_in place (take count state.line))) [
               | inl inside ↦ inr (ap (λ (b : Bool). if b then Some 0 else state.due place) inside)
-              | inr outside ↦
-                  elim (s.says place).0 [
-                    | inl is ↦ inl (ap (λ (b : Bool). if b then Some 0 else state.due place) outside ∙ is)
-                    | inr is ↦ inr (ap (λ (b : Bool). if b then Some 0 else state.due place) outside ∙ is)
-                  ]
+              | inr outside ↦ subst MayBe (sym (ap (λ (b : Bool). if b then Some 0 else state.due place) outside)) (s.says place).0
             ],
             (s.says place).1,
           );
@@ -218,23 +218,9 @@ module _ (needs : Needs) (whole : ℕ) (w : IsWhole needs whole) where
         asks = s.asks;
         says = λ place.
             elim (cases_Bool (place == shown)) [
-              | inl mine ↦ (
-                inl (due-is place true mine),
-                elim (s.says shown).0 [
-                  | inl is ↦ inl (shown-is place true mine ∙ is)
-                  | inr is ↦ inr (shown-is place true mine ∙ is)
-                ],
-              )
-              | inr other ↦ (
-                elim (s.says place).0 [
-                  | inl is ↦ inl (due-is place false other ∙ is)
-                  | inr is ↦ inr (due-is place false other ∙ is)
-                ],
-                elim (s.says place).1 [
-                  | inl is ↦ inl (shown-is place false other ∙ is)
-                  | inr is ↦ inr (shown-is place false other ∙ is)
-                ],
-              )
+              | inl mine ↦ (inl (due-is place true mine), subst MayBe (sym (shown-is place true mine)) (s.says shown).0)
+              | inr other ↦
+                  (subst MayBe (sym (due-is place false other)) (s.says place).0, subst MayBe (sym (shown-is place false other)) (s.says place).1)
             ];
         gone = λ gone. ((s.gone gone).0, λ place is. (s.gone gone).1 place (shows-back place is));
         granted = λ place is. s.granted place (shows-back place is);
@@ -283,11 +269,7 @@ module _ (needs : Needs) (whole : ℕ) (w : IsWhole needs whole) where
               (s.says place).0,
               elim (cases_Bool (place == me)) [
                 | inl here ↦ inl (taken-is place true here)
-                | inr other ↦
-                    elim (s.says place).1 [
-                      | inl none ↦ inl (taken-is place false other ∙ none)
-                      | inr grant ↦ inr (taken-is place false other ∙ grant)
-                    ]
+                | inr other ↦ subst MayBe (sym (taken-is place false other)) (s.says place).1
               ],
             );
             gone = λ gone. (s.granted me mine, nobody_left);
@@ -314,7 +296,6 @@ module _ (needs : Needs) (whole : ℕ) (w : IsWhole needs whole) where
   event-keeps taken state place (Acquired request) s once enabled allowed =
       subst (λ (n : ℕ). InTurns true (record state { count = state.count + needs.takes n })) (sym allowed)
       (got taken state s (subst (λ (n : ℕ). fits_count needs state.count n ≡ true) allowed enabled.2))
-  event-keeps taken state place (Refused request) s once enabled allowed = s
   event-keeps taken state place (Joined request) s once enabled allowed =
       lined taken state s (state.line ++ (place, request) ∷ []) state.unclosed (ask-join whole state.line place request s.asks allowed)
   event-keeps taken state place (Released request) s once enabled allowed =
@@ -322,26 +303,20 @@ module _ (needs : Needs) (whole : ℕ) (w : IsWhole needs whole) where
         count = count_or state.count (left_count needs state.count n);
         unclosed = not (is_empty state.line) || state.unclosed;
       })) (sym allowed.0) (gave taken state s allowed.1 (not (is_empty state.line) || state.unclosed))
-  event-keeps taken state place (ReleasedNothing request) s once enabled allowed = s
   event-keeps taken state place Lowered s once enabled allowed = absurd allowed
-  event-keeps taken state place NotLowered s once enabled allowed = s
-  event-keeps taken state place AskedPoisoned s once enabled allowed = s
   event-keeps taken state place Cancelled s once enabled allowed =
       lined taken state s (without place state.line) (not (is_empty (without place state.line))) (ask-without whole state.line place s.asks)
   event-keeps taken state place (Granted askers) s once enabled allowed = grants taken state s askers enabled.1 enabled.2 enabled.3 _
   event-keeps taken state place Closed s once enabled allowed = lined taken state s state.line false s.asks
   event-keeps taken state place Poisoned s once enabled allowed = absurd allowed
-  event-keeps taken state place NotPoisoned s once enabled allowed = s
   event-keeps taken state place Cleared s once enabled allowed =
       record { asks = s.asks; says = s.says; gone = s.gone; granted = s.granted; one = s.one; kept = s.kept }
-  event-keeps taken state place NotCleared s once enabled allowed = s
-  event-keeps taken state place NotReady s once enabled allowed = s
   event-keeps taken state place (Showed shown_place) s once enabled allowed = shows taken state s shown_place (once shown_place) enabled.0
   event-keeps taken state place (AnswerTaken value) s once enabled allowed =
       let grant : value ≡ 0 = told taken state s place value enabled in
       subst (λ (n : ℕ). InTurns ((n == 0) || taken) (record state { shown = with_answer place None state.shown })) (sym grant)
       (took taken state s place (enabled ∙ ap (λ (n : ℕ). Some n) grant) (once place))
-  event-keeps taken state place (Read count poisoned) s once enabled allowed = s
+  event-keeps taken state place _ s once enabled allowed = s
 
   -- an event begins a turn only where none is taken
   begins-apart : (taken : Bool) (state : AbstractState) (place : ℕ) (event : Event) → InTurns taken state → IsEnabled needs state place event

@@ -1,5 +1,5 @@
 -- Steps that ask and join: each keeps that words and places refine the abstract state.
-use Rattle.std.proofs.Common.{◌≤◌, ◌^◌, ◌≡◌, ℕ, ◌+◌, ◌<◌, Bool, true, false, not, ◌||◌, List, [], ◌∷◌, ◌==◌, if◌then◌else◌, refl, sym, ap, subst, ◌∙◌, arith, inl, inr}
+use Rattle.std.proofs.Common.{◌≤◌, ◌^◌, ◌≡◌, ℕ, ◌+◌, ◌<◌, Bool, true, false, not, ◌||◌, List, [], ◌∷◌, ◌==◌, if◌then◌else◌, refl, sym, ap, ◌∙◌, arith, inl, inr}
 use Rattle.std.proofs.lemmas.Bool.{cases_Bool}
 use Rattle.saa_core_spec.specs.Values.{poisoned_value}
 use Rattle.saa_core_spec.proofs.Counts.{same_number}
@@ -8,38 +8,40 @@ use Rattle.saa_core_words.specs.Words.{count_bits}
 use Rattle.saa_word_steps.specs.declared.place.Place.{Place}
 use Rattle.saa_word_steps.specs.declared.place.Ask.{Ask}
 use Rattle.saa_word_steps.specs.declared.place.Reading.{Reading}
+use Rattle.saa_word_steps.specs.declared.place.Registration.{Registration}
 use Rattle.saa_word_steps.specs.declared.place.Registration.TheVariants.{AnsweredAtOnce}
+use Rattle.saa_word_steps.specs.declared.call.Answer.{Answer}
 use Rattle.saa_word_steps.specs.declared.place.Next.{Next}
+use Rattle.saa_word_steps.specs.declared.place.Next.TheVariants.{Done}
 use Rattle.saa_word_steps.specs.declared.place.Stage.TheVariants.{Quiet, ReadLoad, AcquireLoad, AcquireExchange, Prepare}
-use Rattle.saa_word_steps.specs.Needs.{Needs, AreNeeds, fits_count}
+use Rattle.saa_word_steps.specs.Needs.{Needs, fits_count}
 use Rattle.saa_word_steps.specs.declared.event.Event.{Event}
 use Rattle.saa_word_steps.specs.declared.event.Event.TheVariants.{AskedPoisoned, Acquired, Refused, Read}
-use Rattle.saa_word_steps.specs.AbstractState.{AbstractState, must_wait, is_empty, is_in}
+use Rattle.saa_word_steps.specs.AbstractState.{AbstractState, IsRun, must_wait, is_empty, is_in}
 use Rattle.saa_word_steps.specs.Steps.{decided, found_poisoned, granted, going, done}
 use Rattle.saa_word_steps.specs.Readings.{tried_answer}
-use Rattle.saa_word_proofs.specs.Refinement.{joins_line, is_holder, IsLocallyTrue, IsShowing, waits_behind, Invariant}
+use Rattle.saa_word_proofs.specs.Refinement.{joins_line, is_holder, waits_behind, Invariant}
 use Rattle.saa_word_proofs.specs.Rows.{main_of, updated}
 use Rattle.saa_word_proofs.specs.Registering.{is_slot}
-use Rattle.saa_word_proofs.specs.StepRefinement.{StepRefines, decided_events}
-use Rattle.saa_word_proofs.proofs.RefinementLemmas.Lists.{newest-empty, empty-nil}
-use Rattle.saa_word_proofs.proofs.RefinementLemmas.Rows.{moved, loaded, count-small, tail-small}
-use Rattle.saa_word_proofs.proofs.RefinementLemmas.Outcomes.{not-holder, Outcome, only-looked}
+use Rattle.saa_word_proofs.specs.History.{named, of_place}
+use Rattle.saa_word_proofs.specs.StepRefinement.{decided_events}
+use Rattle.saa_word_proofs.proofs.RefinementLemmas.Lists.{newest-empty, front-none}
+use Rattle.saa_word_proofs.proofs.RefinementLemmas.Rows.{IsStep, at-stage, moved, loaded, count-small, tail-small}
+use Rattle.saa_word_proofs.proofs.RefinementLemmas.Outcomes.{rests, unseen, not-holder, Outcome, only-looked}
 
 -- a place that only reads answers by the main word as it stands
-pub step-ReadLoad : (needs : Needs) → AreNeeds needs → needs.top < 2 ^ count_bits → (places : ℕ) (row : ℕ → ℕ) (standing : ℕ → Place) (state : AbstractState) (me : ℕ)
-    → places < 65536 → (s : Invariant needs places row standing state)
-    → (reading : Reading) → (standing me).stage ≡ ReadLoad reading → StepRefines needs places row standing state me (ReadLoad reading)
-step-ReadLoad needs lawful wide places row standing state me room s reading at = record {
-  events = Read (main_of row).count (main_of row).is_poisoned ∷ [];
-  last = state;
-  run = ((sym s.main.count, sym s.main.poison), refl);
-  names = refl;
-  inside = omega arith;
-  stands = loaded needs places row (updated standing me (record (standing me) { stage = Quiet })) state 0
-      (moved needs places row standing state me s (record (standing me) { stage = Quiet }) (λ out. refl) refl tt tt (λ gives. absurd (cc)) tt
-      (subst (λ stage. IsShowing (s.owed me) (s.answer_value me) stage) at (s.stages.showing me)) (ap is_holder (sym at))
-      (λ is. absurd (not-holder needs places row standing state me s (ap is_holder at) is)));
-}
+pub step-ReadLoad : (reading : Reading) → IsStep (ReadLoad reading)
+step-ReadLoad reading needs lawful wide places row standing state me room s at =
+    let known = at-stage needs places row standing state me s _ at in
+    record {
+      events = Read (main_of row).count (main_of row).is_poisoned ∷ [];
+      last = state;
+      run = ((sym s.main.count, sym s.main.poison), refl);
+      names = refl;
+      inside = omega arith;
+      stands = loaded needs places row (updated standing me (record (standing me) { stage = Quiet })) state 0
+          (rests needs places row standing state me s (standing me).registration refl (ap is_holder at) known.showing);
+    }
 
 -- an ask has to wait exactly where it has to wait behind the main word
 pub waits-same : (needs : Needs) (places : ℕ) (row : ℕ → ℕ) (standing : ℕ → Place) (state : AbstractState) (s : Invariant needs places row standing state) (request : ℕ)
@@ -86,27 +88,30 @@ decided-outcome needs wide places row standing state me s none nothing ask unjoi
     still : false ≡ true → is_in me state.line ≡ false
     still gives = absurd (cc)
 
+    -- it is answered at once, whether it registers or tries
+    at-once : (value : ℕ) (registers tries : Answer) (events : List Event) → IsRun needs state (of_place me events) state → named events ≡ events
+        → Outcome needs places row standing state me (if ask.joins
+        then Done (record (standing me) { registration = AnsweredAtOnce value ask.request; stage = Quiet }) registers
+        else done (standing me) tries) events
+    at-once value registers tries events run names =
+        elim (cases_Bool ask.joins) [
+          | inl joins ↦ rw joins (with-registration (AnsweredAtOnce value ask.request) registers (sym (idle joins)))
+          | inr tried ↦ rw tried (with-registration (standing me).registration tries refl)
+        ]
+      where
+        with-registration : (registration : Registration) (answer : Answer) → is_slot registration ≡ is_slot (standing me).registration
+            → Outcome needs places row standing state me (Done (record (standing me) { registration = registration; stage = Quiet }) answer) events
+        with-registration registration answer same = record {
+          events = events;
+          last = state;
+          run = run;
+          names = names;
+          stands = rests needs places row standing state me s registration same none nothing;
+        }
+
     by : (is_poisoned : Bool) → (main_of row).is_poisoned ≡ is_poisoned
         → Outcome needs places row standing state me (next_by needs (standing me) ask (main_of row) is_poisoned) (names_by needs ask (main_of row) is_poisoned)
-    by true poisoned =
-        elim (cases_Bool ask.joins) [
-          | inl joins ↦ rw joins (record {
-            events = AskedPoisoned ∷ [];
-            last = state;
-            run = (sym s.main.poison ∙ poisoned, refl);
-            names = refl;
-            stands = moved needs places row standing state me s (record (standing me) { registration = AnsweredAtOnce poisoned_value ask.request; stage = Quiet }) (λ out. refl)
-                (sym (idle joins)) tt tt still tt nothing (sym none) (λ is. absurd (no_holder is));
-          })
-          | inr tries ↦ rw tries (record {
-            events = AskedPoisoned ∷ [];
-            last = state;
-            run = (sym s.main.poison ∙ poisoned, refl);
-            names = refl;
-            stands = moved needs places row standing state me s (record (standing me) { stage = Quiet }) (λ out. refl) refl
-                tt tt still tt nothing (sym none) (λ is. absurd (no_holder is));
-          })
-        ]
+    by true poisoned = at-once poisoned_value _ _ (AskedPoisoned ∷ []) (sym s.main.poison ∙ poisoned, refl) refl
     by false clean =
         let seen : Word = main_of row in
         let calm : state.poisoned ≡ false = sym s.main.poison ∙ clean in
@@ -114,67 +119,36 @@ decided-outcome needs wide places row standing state me s none nothing ask unjoi
           | inl waits ↦
               let must : must_wait needs state ask.request ≡ true = sym (waits-same needs places row standing state s ask.request) ∙ waits in
               elim (cases_Bool ask.joins) [
-                | inl joins ↦ rw (waits, joins) (record {
-                  events = [];
-                  last = state;
-                  run = refl;
-                  names = refl;
-                  stands = moved needs places row standing state me s (record (standing me) { stage = Prepare ask.request seen }) (λ out. (let wrong : true ≡ false = sym joins ∙ unjoined out in absurd (cc))) refl
-                      (count-small (row 0)) (small, idle joins, tail-small (row 0), waits, clean) still tt nothing (sym none) (λ is. absurd (no_holder is));
-                })
+                | inl joins ↦ rw (waits, joins) (unseen
+                    (moved needs places row standing state me s (record (standing me) { stage = Prepare ask.request seen }) (λ out. (let wrong : true ≡ false = sym joins ∙ unjoined out in absurd (cc))) refl
+                    (count-small (row 0)) (small, idle joins, tail-small (row 0), waits, clean) still tt nothing (sym none) (λ is. absurd (no_holder is))))
                 | inr refused ↦ rw (waits, refused) (record {
                   events = Refused ask.request ∷ [];
                   last = state;
                   run = ((calm, must), refl);
                   names = refl;
-                  stands = moved needs places row standing state me s (record (standing me) { stage = Quiet }) (λ out. refl) refl
-                      tt tt still tt nothing (sym none) (λ is. absurd (no_holder is));
+                  stands = rests needs places row standing state me s (standing me).registration refl none nothing;
                 })
               ]
           | inr free ↦
               let both = neither (seen.tail == 0) (fits_count needs seen.count ask.request) free in
-              let alone : state.line ≡ [] = empty-nil state.line (sym (newest-empty state.line) ∙ ap (λ (n : ℕ). n == 0) (sym s.main.tail) ∙ both.0) in
+              let alone : state.line ≡ [] = front-none state.line _ s.main.tail both.0 in
               let fits : fits_count needs state.count ask.request ≡ true = ap (λ (n : ℕ). fits_count needs n ask.request) (sym s.main.count) ∙ both.1 in
               elim (cases_Bool (needs.takes ask.request == 0)) [
                 | inl nothing_taken ↦
                     let same : record state { count = state.count + needs.takes ask.request } ≡ state =
                     ap (λ (n : ℕ). record state { count = n }) (omega (arith, same_number (needs.takes ask.request) 0 nothing_taken)) in
-                    elim (cases_Bool ask.joins) [
-                      | inl joins ↦ rw (free, nothing_taken, joins) (record {
-                        events = Acquired ask.request ∷ [];
-                        last = state;
-                        run = ((calm, alone, fits), same);
-                        names = refl;
-                        stands = moved needs places row standing state me s (record (standing me) { registration = AnsweredAtOnce 0 ask.request; stage = Quiet }) (λ out. refl)
-                            (sym (idle joins)) tt tt still tt nothing (sym none) (λ is. absurd (no_holder is));
-                      })
-                      | inr tries ↦ rw (free, nothing_taken, tries) (record {
-                        events = Acquired ask.request ∷ [];
-                        last = state;
-                        run = ((calm, alone, fits), same);
-                        names = refl;
-                        stands = moved needs places row standing state me s (record (standing me) { stage = Quiet }) (λ out. refl) refl
-                            tt tt still tt nothing (sym none) (λ is. absurd (no_holder is));
-                      })
-                    ]
-                | inr takes ↦ rw (free, takes) (record {
-                  events = [];
-                  last = state;
-                  run = refl;
-                  names = refl;
-                  stands = moved needs places row standing state me s (record (standing me) { stage = AcquireExchange ask seen }) unjoined refl
-                      (count-small (row 0), both.1) (small, idle, both.0, clean) still tt nothing (sym none) (λ is. absurd (no_holder is));
-                })
+                    rw (free, nothing_taken) (at-once 0 _ _ (Acquired ask.request ∷ []) ((calm, alone, fits), same) refl)
+                | inr takes ↦ rw (free, takes) (unseen
+                    (moved needs places row standing state me s (record (standing me) { stage = AcquireExchange ask seen }) unjoined refl
+                    (count-small (row 0), both.1) (small, idle, both.0, clean) still tt nothing (sym none) (λ is. absurd (no_holder is))))
               ]
         ]
 
 -- a place that asks loads the main word and is decided by it
-pub step-AcquireLoad : (needs : Needs) → AreNeeds needs → needs.top < 2 ^ count_bits → (places : ℕ) (row : ℕ → ℕ) (standing : ℕ → Place) (state : AbstractState) (me : ℕ)
-    → places < 65536 → (s : Invariant needs places row standing state)
-    → (ask : Ask) → (standing me).stage ≡ AcquireLoad ask → StepRefines needs places row standing state me (AcquireLoad ask)
-step-AcquireLoad needs lawful wide places row standing state me room s ask at =
-    let alone : IsLocallyTrue needs (standing me).registration (standing me).back (AcquireLoad ask) =
-    subst (λ stage. IsLocallyTrue needs (standing me).registration (standing me).back stage) at (s.stages.alone me) in
+pub step-AcquireLoad : (ask : Ask) → IsStep (AcquireLoad ask)
+step-AcquireLoad ask needs lawful wide places row standing state me room s at =
+    let known = at-stage needs places row standing state me s _ at in
     let out = decided-outcome needs wide places row standing state me s (ap is_holder at)
-    (subst (λ stage. IsShowing (s.owed me) (s.answer_value me) stage) at (s.stages.showing me)) ask (λ out. ap joins_line (sym at) ∙ s.seats.beyond me out) alone.0 alone.1 in
+    known.showing ask (λ out. ap joins_line (sym at) ∙ s.seats.beyond me out) known.alone.0 known.alone.1 in
     only-looked needs places row standing state me (AcquireLoad ask) out refl refl refl refl

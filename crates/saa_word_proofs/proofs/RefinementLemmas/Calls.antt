@@ -1,5 +1,5 @@
 -- A call's stages name its events, and once it is done its events name its answer.
-use Rattle.std.proofs.Common.{ℕ, ◌+◌, ◌%◌, true, not, ◌&&◌, List, [], ◌∷◌, ◌++◌, ◌==◌, refl, ap, inl, inr, append-nil}
+use Rattle.std.proofs.Common.{ℕ, ◌+◌, ◌%◌, true, not, ◌&&◌, List, [], ◌∷◌, ◌++◌, ◌==◌, refl, ap, inl, inr, append-nil, Bool, false, if◌then◌else◌}
 use Rattle.std.proofs.lemmas.Bool.{cases_Bool}
 use Rattle.saa_core_spec.proofs.Counts.{number_same}
 use Rattle.saa_core_words.specs.Words.{count_bits, word_number, word_of, line_word_of, answer_of}
@@ -7,6 +7,7 @@ use Rattle.saa_word_steps.specs.declared.call.WordCall.{WordCall}
 use Rattle.saa_word_steps.specs.declared.call.Answer.TheVariants.{Bool as Says}
 use Rattle.saa_word_steps.specs.declared.place.Place.{Place}
 use Rattle.saa_word_steps.specs.declared.place.Registration.{Registration}
+use Rattle.saa_word_steps.specs.declared.place.Next.{Next}
 use Rattle.saa_word_steps.specs.declared.place.Stage.{Stage}
 use Rattle.saa_word_steps.specs.declared.place.Stage.TheVariants.{Quiet, ReadLoad, AcquireLoad, AcquireExchange, Prepare, Join, ReleaseLoad, ReleaseExchange, BackLoad, BackStore, Forward, CutToClose, CutForRetry, Close, Empty, Retry, ShowLoad, ShowStore, Take, FlagLoad, FlagExchange, LookLoad, LookStore, Unlink, DropTail, PoisonLoad, PoisonExchange, Clear}
 use Rattle.saa_word_steps.specs.Needs.{Needs, fits_count}
@@ -17,6 +18,11 @@ use Rattle.saa_word_steps.specs.Readings.{poisoned_word, read_as}
 use Rattle.saa_word_proofs.specs.StepRefinement.{gave, named_at}
 use Rattle.saa_word_proofs.specs.CallStages.{IsUnder, IsUnderNext}
 use Rattle.saa_word_proofs.proofs.RefinementLemmas.Naming.{ask-answered, read-answered, cancel-answered, unnamed, granted-under, decided-under, finished-under, shown-under, gave-working, given-under, taken-under, left-cancelled, left-working, flagging-under, poisoning-under, poison-working}
+
+-- what is so of both ways that a call goes on is so of the one that it takes
+either : (P : Next → Type 0) (test : Bool) (one other : Next) → P one → P other → P (if test then one else other)
+either P true one other o t = o
+either P false one other o t = t
 
 -- A call at a stage goes on so, with the events that the stage names
 pub under-next : (needs : Needs) (call : WordCall) (registered : Registration) (me : ℕ) (place : Place) (stage : Stage) (found : ℕ) (events : List Event)
@@ -57,100 +63,60 @@ under-next needs call registered me place (ReleaseExchange what seen) found even
 under-next needs call registered me place (BackLoad seen current newer) found events h =
     unnamed needs call registered place.back (BackLoad seen current newer) events (next_of needs me place (BackLoad seen current newer) found) h
 under-next needs call registered me place (BackStore seen current newer line) found events h =
+    let goes = either (IsUnderNext needs call registered place.back (BackStore seen current newer line) events) in
     unnamed needs call registered place.back (BackStore seen current newer line) events (next_of needs me place (BackStore seen current newer line) found)
-    (elim (cases_Bool (line.older == 0)) [
-      | inl first ↦ rw first h
-      | inr more ↦ rw more h
-    ])
+    (goes (line.older == 0) _ _ h h)
 under-next needs call registered me place (Forward seen current count) found events h =
+    let goes = either (IsUnderNext needs call registered place.back (Forward seen current count) events) in
     unnamed needs call registered place.back (Forward seen current count) events (next_of needs me place (Forward seen current count) found)
-    (elim (cases_Bool (fits_count needs count (line_word_of found).request)) [
-      | inl fits ↦
-          elim (cases_Bool (current == seen.tail)) [
-            | inl last ↦ rw (fits, last) h
-            | inr more ↦ rw (fits, more) h
-          ]
-      | inr unfit ↦
-          elim (cases_Bool ((line_word_of found).older == 0)) [
-            | inl first ↦ rw (unfit, first) h
-            | inr more ↦ rw (unfit, more) h
-          ]
-    ])
+    (goes (fits_count needs count (line_word_of found).request) _ _
+    (goes (current == seen.tail) _ _ h h) (goes ((line_word_of found).older == 0) _ _ h h))
 under-next needs call registered me place (CutToClose seen current count line) found events h =
     unnamed needs call registered place.back (CutToClose seen current count line) events (next_of needs me place (CutToClose seen current count line) found) h
 under-next needs call registered me place (CutForRetry seen current count line) found events h =
     unnamed needs call registered place.back (CutForRetry seen current count line) events (next_of needs me place (CutForRetry seen current count line) found) h
 under-next needs call registered me place (Close seen count top) found events h =
+    let goes = either (IsUnderNext needs call registered place.back (Close seen count top) events) in
     unnamed needs call registered place.back (Close seen count top) events (next_of needs me place (Close seen count top) found)
-    (elim (cases_Bool (found == word_number count_bits seen)) [
-      | inl same ↦
-          elim (cases_Bool (top == 0)) [
-            | inl nobody ↦ rw (same, nobody) (finished-under needs call registered place.back (Close seen count top) events place place.back h)
-            | inr some ↦ rw (same, some) h
-          ]
-      | inr differs ↦
-          elim (cases_Bool ((word_of count_bits found).count == seen.count)) [
-            | inl counted ↦ rw (differs, counted) h
-            | inr less ↦ rw (differs, less) h
-          ]
-    ])
+    (goes (found == word_number count_bits seen) _ _
+    (goes (top == 0) _ _ (finished-under needs call registered place.back (Close seen count top) events place place.back h) h)
+    (goes ((word_of count_bits found).count == seen.count) _ _ h h))
 under-next needs call registered me place (Empty seen current count line) found events h =
+    let goes = either (IsUnderNext needs call registered place.back (Empty seen current count line) events) in
     unnamed needs call registered place.back (Empty seen current count line) events (next_of needs me place (Empty seen current count line) found)
-    (elim (cases_Bool (found == word_number count_bits seen)) [
-      | inl same ↦ rw same h
-      | inr differs ↦
-          elim (cases_Bool (line.older == 0)) [
-            | inl first ↦ rw (differs, first) h
-            | inr more ↦ rw (differs, more) h
-          ]
-    ])
+    (goes (found == word_number count_bits seen) _ _ h (goes (line.older == 0) _ _ h h))
 under-next needs call registered me place (Retry seen count top) found events h =
+    let goes = either (IsUnderNext needs call registered place.back (Retry seen count top) events) in
     unnamed needs call registered place.back (Retry seen count top) events (next_of needs me place (Retry seen count top) found)
-    (elim (cases_Bool (top == 0)) [
-      | inl nobody ↦ rw nobody h
-      | inr some ↦ rw some h
-    ])
+    (goes (top == 0) _ _ h h)
 under-next needs call registered me place (ShowLoad current value afterwards) found events h =
     unnamed needs call registered place.back (ShowLoad current value afterwards) events (next_of needs me place (ShowLoad current value afterwards) found) h
 under-next needs call registered me place (ShowStore current next value afterwards) found events h =
+    let goes = either (IsUnderNext needs call registered place.back (ShowStore current next value afterwards) events) in
     unnamed needs call registered place.back (ShowStore current next value afterwards) events
     (next_of needs me place (ShowStore current next value afterwards) found)
-    (elim (cases_Bool (next == 0)) [
-      | inl last ↦ rw last (shown-under needs call registered (ShowStore current next value afterwards) events place afterwards h)
-      | inr more ↦ rw more h
-    ])
+    (goes (next == 0) _ _ (shown-under needs call registered (ShowStore current next value afterwards) events place afterwards h) h)
 under-next needs call registered me place (Take taking) found events h =
     taken-under needs call registered place taking (answer_of (found % 65536)) events h
 under-next needs call registered me place FlagLoad found events h =
     unnamed needs call registered place.back FlagLoad events (next_of needs me place FlagLoad found)
     (flagging-under needs call registered FlagLoad place (word_of count_bits found) events h h)
 under-next needs call registered me place (FlagExchange seen) found events h =
+    let goes = either (IsUnderNext needs call registered place.back (FlagExchange seen) events) in
     unnamed needs call registered place.back (FlagExchange seen) events (next_of needs me place (FlagExchange seen) found)
-    (elim (cases_Bool (found == word_number count_bits seen)) [
-      | inl same ↦ rw same h
-      | inr differs ↦ rw differs (flagging-under needs call registered (FlagExchange seen) place (word_of count_bits found) events h h)
-    ])
+    (goes (found == word_number count_bits seen) _ _ h
+    (flagging-under needs call registered (FlagExchange seen) place (word_of count_bits found) events h h))
 under-next needs call registered me place (LookLoad seen current newer previous) found events h =
+    let goes = either (IsUnderNext needs call registered place.back (LookLoad seen current newer previous) events) in
     unnamed needs call registered place.back (LookLoad seen current newer previous) events (next_of needs me place (LookLoad seen current newer previous) found)
-    (elim (cases_Bool (current == me + 1)) [
-      | inl found_me ↦
-          elim (cases_Bool (newer == 0)) [
-            | inl last ↦ rw (found_me, last) h
-            | inr more ↦ rw (found_me, more) h
-          ]
-      | inr another ↦ rw another h
-    ])
+    (goes (current == me + 1) _ _ (goes (newer == 0) _ _ h h) h)
 under-next needs call registered me place (LookStore seen current newer line) found events h =
+    let goes = either (IsUnderNext needs call registered place.back (LookStore seen current newer line) events) in
     unnamed needs call registered place.back (LookStore seen current newer line) events (next_of needs me place (LookStore seen current newer line) found)
-    (elim (cases_Bool (line.older == 0)) [
-      | inl first ↦ rw first (left-working needs call registered place.back events h)
-      | inr more ↦ rw more h
-    ])
+    (goes (line.older == 0) _ _ (left-working needs call registered place.back events h) h)
 under-next needs call registered me place (Unlink seen newer line older) found events h =
-    elim (cases_Bool (older == 0)) [
-      | inl first ↦ rw first (left-cancelled needs call registered place.back events h)
-      | inr more ↦ rw more (left-cancelled needs call registered place.back events h)
-    ]
+    let goes = either (IsUnderNext needs call registered place.back (Unlink seen newer line older) (events ++ Cancelled ∷ [])) in
+    let left = left-cancelled needs call registered place.back events h in goes (older == 0) _ _ left left
 under-next needs call registered me place (DropTail seen older) found events h =
     let left = left-cancelled needs call registered place.back events h in
     elim (cases_Bool (found == word_number count_bits seen)) [

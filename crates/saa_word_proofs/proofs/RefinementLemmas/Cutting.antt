@@ -1,25 +1,25 @@
 -- The holder of the flag cuts the granted waiters off from those that stay: each step keeps how words, places and the abstract state
 -- stand together.
-use Rattle.std.proofs.Common.{◌^◌, ◌≡◌, ℕ, ◌+◌, ◌<◌, ◌≤◌, pred, true, false, List, [], ◌∷◌, ◌++◌, refl, sym, ap, subst, ◌∙◌, arith}
+use Rattle.std.proofs.Common.{◌≡◌, ℕ, ◌+◌, ◌<◌, ◌≤◌, pred, true, false, List, [], ◌∷◌, ◌++◌, refl, sym, ap, subst, ◌∙◌, arith}
 use Rattle.saa_core_spec.specs.Object.{one_if, times}
 use Rattle.saa_core_spec.proofs.Counts.{number_same, times-append}
 use Rattle.saa_core_words.specs.declared.word.Word.{Word}
 use Rattle.saa_core_words.specs.declared.line_word.LineWord.{LineWord}
-use Rattle.saa_core_words.specs.Words.{count_bits, line_number}
+use Rattle.saa_core_words.specs.Words.{line_number}
 use Rattle.saa_core_words.proofs.Words.{line_word-read}
 use Rattle.saa_word_steps.specs.declared.place.Place.{Place}
 use Rattle.saa_word_steps.specs.declared.place.Stage.{Stage}
 use Rattle.saa_word_steps.specs.declared.place.Stage.TheVariants.{CutToClose, CutForRetry, Close, Retry}
-use Rattle.saa_word_steps.specs.Needs.{Needs, AreNeeds, fits_count}
+use Rattle.saa_word_steps.specs.Needs.{Needs, fits_count}
 use Rattle.saa_word_steps.specs.AbstractState.{AbstractState, IsSettledAt, is_in}
 use Rattle.saa_word_steps.specs.Steps.{IsRanged}
 use Rattle.saa_word_proofs.specs.Refinement.{joins_line, is_holder, gives_up, IsLocallyTrue, IsOwn, IsShowing, Work, IsAt, IsHolding, IsLine, AreSeats, Invariant}
 use Rattle.saa_word_proofs.specs.Rows.{IsBehind, line_of, updated}
-use Rattle.saa_word_proofs.specs.StepRefinement.{StepRefines}
 use Rattle.saa_word_proofs.proofs.RefinementLemmas.Lists.{behind-frame, behind-front, behind-rest}
 use Rattle.saa_word_proofs.proofs.RefinementLemmas.Frames.{oldest-stands, work-behind}
-use Rattle.saa_word_proofs.proofs.RefinementLemmas.Rows.{apart-at, line-at, line-other}
-use Rattle.saa_word_proofs.proofs.RefinementLemmas.Linking.{flag-held, flag-knows, in-line, line-room, relinked, IsLooked, looked, linked-all, tail-room}
+use Rattle.saa_word_proofs.proofs.RefinementLemmas.Rows.{IsStep, at-stage, line-at, line-other}
+use Rattle.saa_word_proofs.proofs.RefinementLemmas.Linking.{flag-held, in-line, line-room, relinked, IsLooked, looked, linked-all, tail-room}
+use Rattle.saa_word_proofs.proofs.RefinementLemmas.Outcomes.{silent}
 
 -- a place that is once in a line is in one part of it
 once-before : (front rest : List (ℕ × ℕ)) (asker : ℕ × ℕ) (place : ℕ) → times asker.0 (front ++ asker ∷ rest) ≤ 1
@@ -90,9 +90,8 @@ cut needs places row standing state me s seen work current line next never holds
     ∙ ap (λ (w : LineWord). w.request) word ∙ ap (λ (n : ℕ). (line_of row n).request) place)
     (ap (λ (w : LineWord). w.older) written_there)
     (λ other apart. line-other row (pred current) number other (λ is. apart (is ∙ place))) in
-    subst (λ (link : ℕ). Invariant needs places (updated row link number) (updated standing me (record (standing me) { stage = next })) state) (sym there.1)
-    (relinked needs places row standing state me s next (pred current) number work.front (look.asker ∷ (look.rest ++ work.joined)) (λ out. never) flag waits line_is
-    ranged alone apart (own (new me)) showing holder (holding look new))
+    relinked needs places row standing state me s next current (pred current) number work.front (look.asker ∷ (look.rest ++ work.joined)) there.1 (λ out. never) flag waits
+    line_is ranged alone apart (own (new me)) showing holder (holding look new)
 
 -- the place that is cut off from is a place
 cut-inside : (places : ℕ) (row : ℕ → ℕ) (standing : ℕ → Place) (state : AbstractState) (seen : Word) (work : Work state.count state.line seen) (current : ℕ)
@@ -102,55 +101,31 @@ cut-inside places row standing state seen work current seats at =
     omega (arith, there.1, (in-line places standing state (pred current) seats (work-behind state.count state.line seen work (pred current) there.0)).0)
 
 -- The cut before the line is closed: the oldest waiter that stays does not fit
-pub step-CutToClose : (needs : Needs) → AreNeeds needs → needs.top < 2 ^ count_bits → (places : ℕ) (row : ℕ → ℕ) (standing : ℕ → Place) (state : AbstractState) (me : ℕ)
-    → places < 65536 → (s : Invariant needs places row standing state)
-    → (seen : Word) (current count : ℕ) (line : LineWord) → (standing me).stage ≡ CutToClose seen current count line
-    → StepRefines needs places row standing state me (CutToClose seen current count line)
-step-CutToClose needs lawful wide places row standing state me room s seen current count line at =
-    let knows = flag-knows needs places row standing state me s (CutToClose seen current count line) at refl in
-    record {
-      events = [];
-      last = state;
-      run = refl;
-      names = refl;
-      inside = cut-inside places row standing state seen knows.0 current s.seats knows.3;
-      stands = cut needs places row standing state me s seen knows.0 current line (Close seen count line.older) refl (ap is_holder at)
-          knows.1 knows.3 knows.4
-          (subst (λ stage. IsRanged needs stage) at (s.stages.ranged me)) (
-            tail-room places standing state seen knows.0 s.seats room knows.3.1,
-            subst (λ stage. IsLocallyTrue needs (standing me).registration (standing me).back stage) at (s.stages.alone me),
-          )
-          (apart-at needs places row standing state me s (CutToClose seen current count line) at) (λ word. tt)
-          (subst (λ stage. IsShowing (s.owed me) (s.answer_value me) stage) at (s.stages.showing me)) refl
-          (λ look new. (
-            knows.0,
-            refl,
-            knows.2,
-            ap (λ (w : LineWord). w.older) knows.4 ∙ look.older,
-            knows.3.1,
-            subst (λ l. IsSettledAt needs count l) (sym look.behind)
-                (ap (λ (n : ℕ). fits_count needs count n) (sym look.request) ∙ ap (λ (w : LineWord). fits_count needs count w.request) (sym knows.4) ∙ knows.5),
-          ));
-    }
+pub step-CutToClose : (seen : Word) (current count : ℕ) (line : LineWord) → IsStep (CutToClose seen current count line)
+step-CutToClose seen current count line needs lawful wide places row standing state me room s at =
+    let known = at-stage needs places row standing state me s _ at in
+    let knows = known.holding (known.mine refl) in
+    silent refl (cut-inside places row standing state seen knows.0 current s.seats knows.3)
+    (cut needs places row standing state me s seen knows.0 current line (Close seen count line.older) refl (ap is_holder at)
+    knows.1 knows.3 knows.4
+    known.ranged (tail-room places standing state seen knows.0 s.seats room knows.3.1, known.alone) known.apart (λ word. tt) known.showing refl
+    (λ look new. (
+      knows.0,
+      refl,
+      knows.2,
+      ap (λ (w : LineWord). w.older) knows.4 ∙ look.older,
+      knows.3.1,
+      subst (λ l. IsSettledAt needs count l) (sym look.behind)
+          (ap (λ (n : ℕ). fits_count needs count n) (sym look.request) ∙ ap (λ (w : LineWord). fits_count needs count w.request) (sym knows.4) ∙ knows.5),
+    )))
 
 -- The cut before the holder walks anew: the line could not be emptied, and its last waits on
-pub step-CutForRetry : (needs : Needs) → AreNeeds needs → needs.top < 2 ^ count_bits → (places : ℕ) (row : ℕ → ℕ) (standing : ℕ → Place) (state : AbstractState) (me : ℕ)
-    → places < 65536 → (s : Invariant needs places row standing state)
-    → (seen : Word) (current count : ℕ) (line : LineWord) → (standing me).stage ≡ CutForRetry seen current count line
-    → StepRefines needs places row standing state me (CutForRetry seen current count line)
-step-CutForRetry needs lawful wide places row standing state me room s seen current count line at =
-    let knows = flag-knows needs places row standing state me s (CutForRetry seen current count line) at refl in
-    record {
-      events = [];
-      last = state;
-      run = refl;
-      names = refl;
-      inside = cut-inside places row standing state seen knows.0 current s.seats knows.3;
-      stands = cut needs places row standing state me s seen knows.0 current line (Retry seen count line.older) refl (ap is_holder at)
-          knows.1 knows.3 knows.4
-          (subst (λ stage. IsRanged needs stage) at (s.stages.ranged me))
-          (subst (λ stage. IsLocallyTrue needs (standing me).registration (standing me).back stage) at (s.stages.alone me))
-          (apart-at needs places row standing state me s (CutForRetry seen current count line) at) (λ word. tt)
-          (subst (λ stage. IsShowing (s.owed me) (s.answer_value me) stage) at (s.stages.showing me)) refl
-          (λ look new. (knows.0, refl, knows.2, ap (λ (w : LineWord). w.older) knows.4 ∙ look.older, knows.3.1));
-    }
+pub step-CutForRetry : (seen : Word) (current count : ℕ) (line : LineWord) → IsStep (CutForRetry seen current count line)
+step-CutForRetry seen current count line needs lawful wide places row standing state me room s at =
+    let known = at-stage needs places row standing state me s _ at in
+    let knows = known.holding (known.mine refl) in
+    silent refl (cut-inside places row standing state seen knows.0 current s.seats knows.3)
+    (cut needs places row standing state me s seen knows.0 current line (Retry seen count line.older) refl (ap is_holder at)
+    knows.1 knows.3 knows.4
+    known.ranged known.alone known.apart (λ word. tt) known.showing refl
+    (λ look new. (knows.0, refl, knows.2, ap (λ (w : LineWord). w.older) knows.4 ∙ look.older, knows.3.1)))

@@ -8,19 +8,18 @@ use Rattle.saa_core_words.specs.Words.{count_bits, word_number}
 use Rattle.saa_core_spec.specs.Object.{times}
 use Rattle.saa_word_steps.specs.declared.place.Place.{Place}
 use Rattle.saa_word_steps.specs.declared.place.AfterShow.TheVariants.{Ends}
-use Rattle.saa_word_steps.specs.declared.place.Stage.{Stage}
 use Rattle.saa_word_steps.specs.declared.place.Stage.TheVariants.{CutForRetry, Empty, Retry, ShowLoad}
 use Rattle.saa_word_steps.specs.Needs.{Needs, AreNeeds, fits_count}
-use Rattle.saa_word_steps.specs.AbstractState.{AbstractState, IsFront, is_empty, is_in, takes_of}
-use Rattle.saa_word_steps.specs.Steps.{IsRanged, settled_word}
-use Rattle.saa_word_proofs.specs.Refinement.{newest, oldest, is_holder, gives_up, IsLocallyTrue, IsShowing, Work, IsHolding, Invariant}
+use Rattle.saa_word_steps.specs.AbstractState.{AbstractState, IsFront, is_empty, takes_of}
+use Rattle.saa_word_steps.specs.Steps.{settled_word}
+use Rattle.saa_word_proofs.specs.Refinement.{newest, oldest, is_holder, Work, Invariant}
 use Rattle.saa_word_proofs.specs.Rows.{IsBehind, line_of, main_of, updated}
 use Rattle.saa_word_proofs.specs.StepRefinement.{StepRefines}
-use Rattle.saa_word_proofs.proofs.RefinementLemmas.Lists.{newest-in, newest-last, empty-nil, behind-rest, front-append, takes-append}
-use Rattle.saa_word_proofs.proofs.RefinementLemmas.Rows.{apart-at, main-found, moved, loaded}
-use Rattle.saa_word_proofs.proofs.RefinementLemmas.Holders.{calm-held}
-use Rattle.saa_word_proofs.proofs.RefinementLemmas.Granting.{granted, close-run, some-append, newest-rest, times-parts, settled-main, front-bounded, front-none, parts-linked, held-once, holder-none, nobody, granting}
-use Rattle.saa_word_proofs.proofs.RefinementLemmas.Linking.{flag-held}
+use Rattle.saa_word_proofs.proofs.RefinementLemmas.Lists.{newest-in, newest-last, empty-nil, behind-rest, front-append, takes-append, front-none}
+use Rattle.saa_word_proofs.proofs.RefinementLemmas.Rows.{IsStep, IsAtStage, at-stage, main-found, moved, loaded}
+use Rattle.saa_word_proofs.proofs.RefinementLemmas.Holders.{some-append, calm-held}
+use Rattle.saa_word_proofs.proofs.RefinementLemmas.Granting.{close-run, newest-rest, times-parts, settled-main, front-bounded, parts-linked, held-once, holder-none, nobody, granting, by-grant}
+use Rattle.saa_word_proofs.proofs.RefinementLemmas.Outcomes.{silent}
 
 -- one place alone stands there, at this link
 record IsOne (line : List (ℕ × ℕ)) (link : ℕ) : Type 0 where
@@ -60,15 +59,13 @@ older-first words older (asker ∷ rest) link some first linked =
 emptied-step : (needs : Needs) → AreNeeds needs → (places : ℕ) (row : ℕ → ℕ) (standing : ℕ → Place) (state : AbstractState) (me : ℕ)
     → (s : Invariant needs places row standing state)
     → (seen : Word) (current count : ℕ) (word : LineWord) → row 0 == word_number count_bits seen ≡ true
-    → s.holder ≡ me + 1 → IsRanged needs (Empty seen current count word)
-    → IsLocallyTrue needs (standing me).registration (standing me).back (Empty seen current count word)
-    → (gives_up (standing me).back (Empty seen current count word) ≡ true → is_in me state.line ≡ false) → s.owed me ≡ []
-    → IsHolding needs (line_of row) me state.count state.line s.cut (Empty seen current count word)
+    → s.holder ≡ me + 1 → IsAtStage needs places row standing state me s (Empty seen current count word)
     → StepRefines needs places row standing state me (Empty seen current count word)
-emptied-step needs lawful places row standing state me s seen current count word same mine ranged alone apart none holding =
+emptied-step needs lawful places row standing state me s seen current count word same mine known =
+    let holding = known.holding mine in
     let work : Work state.count state.line seen = holding.0 in
     let rest : List (ℕ × ℕ) = work.behind ++ work.joined in
-    let found : main_of row ≡ seen = main-found (row 0) seen ranged.0 alone.0 same in
+    let found : main_of row ≡ seen = main-found (row 0) seen known.ranged.0 known.alone.0 same in
     let counted : seen.count ≡ state.count = sym (ap (λ (w : Word). w.count) found) ∙ s.main.count in
     let some : is_empty rest ≡ false = some-append work.behind work.joined holding.3.1 in
     let tail : current ≡ newest 0 rest =
@@ -96,39 +93,30 @@ emptied-step needs lawful places row standing state me s seen current count word
     let adds : count ≡ state.count + takes_of needs all =
     omega (arith, counted, holding.7, ap needs.takes asks, takes-append needs work.front (asker ∷ [])) in
     let bounded : count ≤ needs.top = omega (arith, adds, front-bounded needs lawful state.count all fits s.main.bounded) in
-    let main = settled-main needs state me all [] count 0 (calm-held needs places row standing state me s mine) ranged.1 (omega arith) adds bounded refl tt in
+    let main = settled-main needs state me all [] count 0 (calm-held needs places row standing state me s mine) known.ranged.1 (omega arith) adds bounded refl tt in
     let grant = close-run needs state me all [] parts fits tt s.main.settled in
-    record {
-      events = grant.events;
-      last = granted needs state me all [] false;
-      run = grant.run;
-      names = grant.names;
-      inside = omega arith;
-      stands =
-          rw same
-          (granting needs places row standing state me s (word_number count_bits (settled_word count 0)) (ShowLoad current 0 Ends) all [] 0 false
-          (λ out. refl) mine none parts linked tt main tt alone.1 apart tt
-          (newest-last 0 work.front asker ∙ sym one.stands, some-last work.front asker, refl)
-          (sym (nobody me))
-          (λ is. absurd (omega (arith, is))) (λ other apart. holder-none s.holder me other mine apart));
-    }
+    by-grant grant refl (omega arith)
+    (rw same
+    (granting needs places row standing state me s (word_number count_bits (settled_word count 0)) (ShowLoad current 0 Ends) all [] 0 false
+    (λ out. refl) mine known.showing parts linked tt main tt known.alone.1 known.apart tt
+    (newest-last 0 work.front asker ∙ sym one.stands, some-last work.front asker, refl)
+    (sym (nobody me))
+    (λ is. absurd (omega (arith, is))) (λ other apart. holder-none s.holder me other mine apart)))
 
 -- the exchange fails: another word stands there, and all but the last go round
 missed-step : (needs : Needs) (places : ℕ) (row : ℕ → ℕ) (standing : ℕ → Place) (state : AbstractState) (me : ℕ)
     → (s : Invariant needs places row standing state)
     → (seen : Word) (current count : ℕ) (word : LineWord) → (standing me).stage ≡ Empty seen current count word
     → row 0 == word_number count_bits seen ≡ false
-    → s.holder ≡ me + 1 → IsRanged needs (Empty seen current count word)
-    → IsLocallyTrue needs (standing me).registration (standing me).back (Empty seen current count word)
-    → (gives_up (standing me).back (Empty seen current count word) ≡ true → is_in me state.line ≡ false) → s.owed me ≡ []
-    → IsHolding needs (line_of row) me state.count state.line s.cut (Empty seen current count word)
+    → s.holder ≡ me + 1 → IsAtStage needs places row standing state me s (Empty seen current count word)
     → StepRefines needs places row standing state me (Empty seen current count word)
-missed-step needs places row standing state me s seen current count word at differs mine ranged alone apart none holding =
+missed-step needs places row standing state me s seen current count word at differs mine known =
+    let holding = known.holding mine in
     let work : Work state.count state.line seen = holding.0 in
     let rest : List (ℕ × ℕ) = work.behind ++ work.joined in
     let fewer : ℕ = count - needs.takes word.request in
     let left : fewer ≡ seen.count + takes_of needs work.front = omega (arith, holding.7) in
-    let small : fewer < 2 ^ count_bits = omega (arith, ranged.1) in
+    let small : fewer < 2 ^ count_bits = omega (arith, known.ranged.1) in
     let linked : IsBehind (line_of row) (newest 0 work.front) rest =
     behind-rest (line_of row) 0 work.front rest
     (subst (λ (l : List (ℕ × ℕ)). IsBehind (line_of row) 0 l) work.parts
@@ -137,43 +125,28 @@ missed-step needs places row standing state me s seen current count word at diff
     ap (λ (w : LineWord). w.older) holding.4
     ∙ older-first (line_of row) (newest 0 work.front) rest current (some-append work.behind work.joined holding.3.1)
     (holding.3.0 ∙ sym (oldest-append work.behind work.joined holding.3.1)) linked in
-    record {
-      events = [];
-      last = state;
-      run = refl;
-      names = refl;
-      inside = omega arith;
-      stands =
-          elim (cases_Bool (word.older == 0)) [
-            | inl only ↦
-                let front : work.front ≡ [] = front-none work.front word.older older only in
-                rw (differs, only)
-                (loaded needs places row (updated standing me (record (standing me) { stage = Retry seen fewer 0 })) state 0
-                (moved needs places row standing state me s (record (standing me) { stage = Retry seen fewer 0 }) (λ out. refl) refl
-                (ranged.0, small) alone.1 apart tt none (ap is_holder (sym at))
-                (λ is. (work, holding.1 ∙ sym front, (holding.2, left), sym (ap (λ (l : List (ℕ × ℕ)). newest 0 l) front), holding.3.1))))
-            | inr others ↦
-                rw (differs, others)
-                (loaded needs places row (updated standing me (record (standing me) { stage = CutForRetry seen current fewer word })) state 0
-                (moved needs places row standing state me s (record (standing me) { stage = CutForRetry seen current fewer word }) (λ out. refl) refl
-                (ranged.0, small) alone.1 apart tt none (ap is_holder (sym at))
-                (λ is. (work, holding.1, (holding.2, left), holding.3, holding.4))))
-          ];
-    }
+    silent refl (omega arith) (elim (cases_Bool (word.older == 0)) [
+      | inl only ↦
+          let front : work.front ≡ [] = front-none work.front word.older older only in
+          rw (differs, only)
+          (loaded needs places row (updated standing me (record (standing me) { stage = Retry seen fewer 0 })) state 0
+          (moved needs places row standing state me s (record (standing me) { stage = Retry seen fewer 0 }) (λ out. refl) refl
+          (known.ranged.0, small) known.alone.1 known.apart tt known.showing (ap is_holder (sym at))
+          (λ is. (work, holding.1 ∙ sym front, (holding.2, left), sym (ap (λ (l : List (ℕ × ℕ)). newest 0 l) front), holding.3.1))))
+      | inr others ↦
+          rw (differs, others)
+          (loaded needs places row (updated standing me (record (standing me) { stage = CutForRetry seen current fewer word })) state 0
+          (moved needs places row standing state me s (record (standing me) { stage = CutForRetry seen current fewer word }) (λ out. refl) refl
+          (known.ranged.0, small) known.alone.1 known.apart tt known.showing (ap is_holder (sym at))
+          (λ is. (work, holding.1, (holding.2, left), holding.3, holding.4))))
+    ])
 
 -- Where all fit, the line is emptied; else all but the last of them go round
-pub step-Empty : (needs : Needs) → AreNeeds needs → needs.top < 2 ^ count_bits → (places : ℕ) (row : ℕ → ℕ) (standing : ℕ → Place) (state : AbstractState) (me : ℕ)
-    → places < 65536 → (s : Invariant needs places row standing state)
-    → (seen : Word) (current count : ℕ) (word : LineWord) → (standing me).stage ≡ Empty seen current count word
-    → StepRefines needs places row standing state me (Empty seen current count word)
-step-Empty needs lawful wide places row standing state me room s seen current count word at =
-    let mine : s.holder ≡ me + 1 = flag-held needs places row standing state me s (ap is_holder at) in
-    let ranged = subst (λ (stage : Stage). IsRanged needs stage) at (s.stages.ranged me) in
-    let alone = subst (λ (stage : Stage). IsLocallyTrue needs (standing me).registration (standing me).back stage) at (s.stages.alone me) in
-    let apart = apart-at needs places row standing state me s (Empty seen current count word) at in
-    let none = subst (λ (stage : Stage). IsShowing (s.owed me) (s.answer_value me) stage) at (s.stages.showing me) in
-    let holding = subst (λ (stage : Stage). IsHolding needs (line_of row) me state.count state.line s.cut stage) at (s.stages.holding me mine) in
+pub step-Empty : (seen : Word) (current count : ℕ) (word : LineWord) → IsStep (Empty seen current count word)
+step-Empty seen current count word needs lawful wide places row standing state me room s at =
+    let known = at-stage needs places row standing state me s _ at in
+    let mine = known.mine refl in
     elim (cases_Bool (row 0 == word_number count_bits seen)) [
-      | inl same ↦ emptied-step needs lawful places row standing state me s seen current count word same mine ranged alone apart none holding
-      | inr differs ↦ missed-step needs places row standing state me s seen current count word at differs mine ranged alone apart none holding
+      | inl same ↦ emptied-step needs lawful places row standing state me s seen current count word same mine known
+      | inr differs ↦ missed-step needs places row standing state me s seen current count word at differs mine known
     ]

@@ -4,7 +4,7 @@ use Rattle.saa_core_words.specs.declared.line_word.LineWord.{LineWord}
 use Rattle.saa_word_steps.specs.declared.place.Place.{Place}
 use Rattle.saa_word_steps.specs.declared.place.Registration.{Registration}
 use Rattle.saa_word_steps.specs.declared.place.AfterWalk.{AfterWalk}
-use Rattle.saa_word_steps.specs.declared.place.AfterWalk.TheVariants.{Tells, Ends, Takes}
+use Rattle.saa_word_steps.specs.declared.place.AfterWalk.TheVariants.{Takes}
 use Rattle.saa_word_steps.specs.declared.place.PollMode.TheVariants.{Gives}
 use Rattle.saa_word_steps.specs.declared.place.Stage.{Stage}
 use Rattle.saa_word_steps.specs.declared.place.Stage.TheVariants.{Quiet, Take}
@@ -16,53 +16,43 @@ use Rattle.saa_word_proofs.specs.StepRefinement.{place_after}
 -- where a place stands that is done with the line
 abbrev pub end_stage : AfterWalk → Stage
 end_stage (Takes request) = Take (Gives request)
-end_stage Tells = Quiet
-end_stage Ends = Quiet
+end_stage _ = Quiet
 
 pub ended : (place : Place) (back : AfterWalk) → place_after place (finished place back) ≡ record place { stage = end_stage back }
-ended place Tells = refl
-ended place Ends = refl
 ended place (Takes request) = refl
+ended place _ = refl
 
 pub ended-ranged : (needs : Needs) (back : AfterWalk) → IsRanged needs (end_stage back)
-ended-ranged needs Tells = tt
-ended-ranged needs Ends = tt
 ended-ranged needs (Takes request) = tt
+ended-ranged needs _ = tt
 
 pub ended-alone : (needs : Needs) (registration : Registration) (back : AfterWalk) → IsReturning registration back → IsLocallyTrue needs registration back (end_stage back)
-ended-alone needs registration Tells returning = tt
-ended-alone needs registration Ends returning = tt
 ended-alone needs registration (Takes request) returning = returning
+ended-alone needs registration _ returning = tt
 
 -- it takes its own answer where it was to take that
 pub ended-apart : (back : AfterWalk) → gives_up back (end_stage back) ≡ takes_back back
-ended-apart Tells = refl
-ended-apart Ends = refl
 ended-apart (Takes request) = refl
+ended-apart _ = refl
 
 -- and doesn't join the line
 pub ended-joins : (back : AfterWalk) → joins_line (end_stage back) ≡ false
-ended-joins Tells = refl
-ended-joins Ends = refl
 ended-joins (Takes request) = refl
+ended-joins _ = refl
 
 pub ended-own : (word : LineWord) (back : AfterWalk) → IsOwn word (end_stage back)
-ended-own word Tells = tt
-ended-own word Ends = tt
 ended-own word (Takes request) = tt
+ended-own word _ = tt
 
 pub ended-showing : (owed : List (ℕ × ℕ)) (answer_value : ℕ) (back : AfterWalk) → owed ≡ [] → IsShowing owed answer_value (end_stage back)
-ended-showing owed answer_value Tells none = none
-ended-showing owed answer_value Ends none = none
 ended-showing owed answer_value (Takes request) none = none
+ended-showing owed answer_value _ none = none
 
 pub ended-holder : (back : AfterWalk) → is_holder (end_stage back) ≡ false
-ended-holder Tells = refl
-ended-holder Ends = refl
 ended-holder (Takes request) = refl
+ended-holder _ = refl
 
 -- who doesn't take its own answer once it is done is returning, whatever it is registered as
 pub returning-any : (registration : Registration) (back : AfterWalk) → takes_back back ≡ false → IsReturning registration back
-returning-any registration Tells none = tt
-returning-any registration Ends none = tt
 returning-any registration (Takes request) none = absurd (cc)
+returning-any registration _ none = tt

@@ -1,31 +1,29 @@
 -- What a step leaves as it was: of the words, of what the other places remember, and of what the holder of the flag knows.
-use Rattle.std.proofs.Common.{◌≡◌, ℕ, ◌+◌, ◌<◌, ◌≤◌, pred, true, false, List, [], ◌∷◌, ◌++◌, ◌==◌, sym, ap, subst, ◌∙◌, arith, append_assoc}
+use Rattle.std.proofs.Common.{◌≡◌, ℕ, ◌+◌, ◌<◌, ◌≤◌, pred, true, false, List, [], ◌∷◌, ◌++◌, ◌==◌, sym, ap, subst, ◌∙◌, arith, append_assoc, append-nil}
 use Rattle.saa_core_spec.specs.Object.{one_if, times}
 use Rattle.saa_core_spec.proofs.Counts.{number_same, same_number, times-append}
 use Rattle.saa_core_words.specs.declared.word.Word.{Word}
 use Rattle.saa_core_words.specs.declared.line_word.LineWord.{LineWord}
 use Rattle.saa_word_steps.specs.declared.place.Place.{Place}
-use Rattle.saa_word_steps.specs.declared.place.AfterShow.TheVariants.{Ends, Again}
+use Rattle.saa_word_steps.specs.declared.place.AfterShow.TheVariants.{Again}
 use Rattle.saa_word_steps.specs.declared.place.Stage.{Stage}
-use Rattle.saa_word_steps.specs.declared.place.Stage.TheVariants.{Quiet, ReadLoad, AcquireLoad, AcquireExchange, Prepare, Join, ReleaseLoad, ReleaseExchange, BackLoad, BackStore, Forward, CutToClose, CutForRetry, Close, Empty, Retry, ShowLoad, ShowStore, Take, FlagLoad, FlagExchange, LookLoad, LookStore, Unlink, DropTail, PoisonLoad, PoisonExchange, Clear}
+use Rattle.saa_word_steps.specs.declared.place.Stage.TheVariants.{BackLoad, BackStore, Forward, CutToClose, CutForRetry, Close, Empty, Retry, ShowLoad, ShowStore, LookLoad, LookStore, Unlink, DropTail}
 use Rattle.saa_word_steps.specs.Needs.{Needs}
 use Rattle.saa_word_steps.specs.AbstractState.{is_empty, is_in}
 use Rattle.saa_word_steps.specs.Steps.{IsRanged}
-use Rattle.saa_word_proofs.specs.Refinement.{newest, oldest, is_holder, gives_up, IsLocallyTrue, IsOwn, IsPassed, IsShowing, Work, IsHolding, AreStages}
+use Rattle.saa_word_proofs.specs.Refinement.{newest, oldest, is_holder, gives_up, IsLocallyTrue, IsOwn, IsPassed, IsShowing, Work, IsHolding, AreStages, IsAhead, IsAt, IsBack}
 use Rattle.saa_word_proofs.specs.Rows.{updated}
 use Rattle.saa_word_proofs.proofs.RefinementLemmas.Lists.{each-updated, in-append, newest-in, newest-some, ahead-frame}
 
--- The line as the holder sees it, where less is held or more have joined
-abbrev pub work-frame : (held now : ℕ) (line after more : List (ℕ × ℕ)) (seen : Word) → now ≤ held → after ≡ line ++ more → Work held line seen → Work now after seen
-work-frame held now line after more seen less grown work = record {
-  front = work.front;
-  behind = work.behind;
-  joined = work.joined ++ more;
-  parts = grown ∙ ap (λ (l : List (ℕ × ℕ)). l ++ more) work.parts
-      ∙ append_assoc work.front (work.behind ++ work.joined) more
-      ∙ ap (λ (l : List (ℕ × ℕ)). work.front ++ l) (append_assoc work.behind work.joined more);
-  tail = work.tail;
-  count = omega (arith, less, work.count);
+-- the whole line, as one that takes the flag sees it
+abbrev pub whole-work : (held : ℕ) (line : List (ℕ × ℕ)) (seen : Word) → seen.tail ≡ newest 0 line → held ≤ seen.count → Work held line seen
+whole-work held line seen tail counted = record {
+  front = line;
+  behind = [];
+  joined = [];
+  parts = sym (append-nil line);
+  tail = tail ∙ ap (newest 0) (sym (append-nil line));
+  count = counted;
 }
 
 -- a place behind the front, or in it, is in the line
@@ -57,101 +55,70 @@ oldest-stands (asker ∷ rest) link some is =
 passed-more : (me : ℕ) (behind joined more : List (ℕ × ℕ)) → is_in me more ≡ false → IsPassed me behind joined → IsPassed me behind (joined ++ more)
 passed-more me behind joined more none passed = (passed.0, rw (in-append me joined more, passed.1) none)
 
--- what the holder knows holds still where less is held, more have joined, and the line words of those in line are as they were
-pub holding-frame : (needs : Needs) (words new : ℕ → LineWord) (me held now : ℕ) (line after more cut : List (ℕ × ℕ)) (stage : Stage)
-    → now ≤ held → after ≡ line ++ more → is_in me more ≡ false → ((place : ℕ) → 0 < times place line → new place ≡ words place)
-    → IsHolding needs words me held line cut stage → IsHolding needs new me now after cut stage
-holding-frame needs words new me held now line after more cut Quiet less grown none same h = h
-holding-frame needs words new me held now line after more cut (ReadLoad reading) less grown none same h = h
-holding-frame needs words new me held now line after more cut (AcquireLoad ask) less grown none same h = h
-holding-frame needs words new me held now line after more cut (AcquireExchange ask seen) less grown none same h = h
-holding-frame needs words new me held now line after more cut (Prepare request seen) less grown none same h = h
-holding-frame needs words new me held now line after more cut (Join request seen) less grown none same h = h
-holding-frame needs words new me held now line after more cut (ReleaseLoad given) less grown none same h = h
-holding-frame needs words new me held now line after more cut (ReleaseExchange given seen) less grown none same h = h
-holding-frame needs words new me held now line after more cut (BackLoad seen current newer) less grown none same h = (
-  work-frame held now line after more seen less grown h.0,
-  h.1,
-  (h.2.0, h.2.1, h.2.2, ahead-frame words new h.0.behind (λ place there. ap (λ (w : LineWord). w.newer) (same place (work-behind held line seen h.0 place there))) h.2.3),
-)
-holding-frame needs words new me held now line after more cut (BackStore seen current newer word) less grown none same h = (
-  work-frame held now line after more seen less grown h.0,
-  h.1,
-  (h.2.0, h.2.1, h.2.2, ahead-frame words new h.0.behind (λ place there. ap (λ (w : LineWord). w.newer) (same place (work-behind held line seen h.0 place there))) h.2.3),
-  h.3 ∙ sym (same (pred current) (work-front held line seen h.0 (pred current) (newest-stands h.0.front current h.2.1 h.2.0).0)),
-)
-holding-frame needs words new me held now line after more cut (Forward seen current count) less grown none same h = (
-  work-frame held now line after more seen less grown h.0,
-  h.1,
-  h.2,
-  (h.3.0, h.3.1, ahead-frame words new h.0.behind (λ place there. ap (λ (w : LineWord). w.newer) (same place (work-behind held line seen h.0 place there))) h.3.2),
-)
-holding-frame needs words new me held now line after more cut (CutToClose seen current count word) less grown none same h = (
-  work-frame held now line after more seen less grown h.0,
-  h.1,
-  h.2,
-  (h.3.0, h.3.1, ahead-frame words new h.0.behind (λ place there. ap (λ (w : LineWord). w.newer) (same place (work-behind held line seen h.0 place there))) h.3.2),
-  h.4 ∙ sym (same (pred current) (work-behind held line seen h.0 (pred current) (oldest-stands h.0.behind current h.3.1 h.3.0).0)),
-  h.5,
-)
-holding-frame needs words new me held now line after more cut (CutForRetry seen current count word) less grown none same h = (
-  work-frame held now line after more seen less grown h.0,
-  h.1,
-  h.2,
-  (h.3.0, h.3.1, ahead-frame words new h.0.behind (λ place there. ap (λ (w : LineWord). w.newer) (same place (work-behind held line seen h.0 place there))) h.3.2),
-  h.4 ∙ sym (same (pred current) (work-behind held line seen h.0 (pred current) (oldest-stands h.0.behind current h.3.1 h.3.0).0)),
-)
-holding-frame needs words new me held now line after more cut (Close seen count top) less grown none same h =
-    (work-frame held now line after more seen less grown h.0, h.1, h.2, h.3, h.4, h.5)
-holding-frame needs words new me held now line after more cut (Empty seen current count word) less grown none same h = (
-  work-frame held now line after more seen less grown h.0,
-  h.1,
-  h.2,
-  (h.3.0, h.3.1, ahead-frame words new h.0.behind (λ place there. ap (λ (w : LineWord). w.newer) (same place (work-behind held line seen h.0 place there))) h.3.2),
-  h.4 ∙ sym (same (pred current) (work-behind held line seen h.0 (pred current) (oldest-stands h.0.behind current h.3.1 h.3.0).0)),
-  h.5,
-  h.6,
-  h.7,
-)
-holding-frame needs words new me held now line after more cut (Retry seen count top) less grown none same h =
-    (work-frame held now line after more seen less grown h.0, h.1, h.2, h.3, h.4)
-holding-frame needs words new me held now line after more cut (ShowLoad current value Ends) less grown none same h = h
-holding-frame needs words new me held now line after more cut (ShowStore current next value Ends) less grown none same h = h
-holding-frame needs words new me held now line after more cut (ShowLoad current value (Again seen)) less grown none same h =
-    (work-frame held now line after more seen less grown h.0, h.1, h.2, h.3)
-holding-frame needs words new me held now line after more cut (ShowStore current next value (Again seen)) less grown none same h =
-    (work-frame held now line after more seen less grown h.0, h.1, h.2, h.3)
-holding-frame needs words new me held now line after more cut (Take taking) less grown none same h = h
-holding-frame needs words new me held now line after more cut FlagLoad less grown none same h = h
-holding-frame needs words new me held now line after more cut (FlagExchange seen) less grown none same h = h
-holding-frame needs words new me held now line after more cut (LookLoad seen current newer previous) less grown none same h = (
-  work-frame held now line after more seen less grown h.0,
-  h.1,
-  (h.2.0, h.2.1, h.2.2, ahead-frame words new h.0.behind (λ place there. ap (λ (w : LineWord). w.newer) (same place (work-behind held line seen h.0 place there))) h.2.3),
-  passed-more me h.0.behind h.0.joined more none h.3,
-  λ some.
-      h.4 some ∙ sym (same (pred newer) (work-behind held line seen h.0 (pred newer) (oldest-stands h.0.behind newer some h.2.2).0)),
-)
-holding-frame needs words new me held now line after more cut (LookStore seen current newer word) less grown none same h = (
-  work-frame held now line after more seen less grown h.0,
-  h.1,
-  (h.2.0, h.2.1, h.2.2, ahead-frame words new h.0.behind (λ place there. ap (λ (w : LineWord). w.newer) (same place (work-behind held line seen h.0 place there))) h.2.3),
-  passed-more me h.0.behind h.0.joined more none h.3,
-  h.4 ∙ sym (same (pred current) (work-front held line seen h.0 (pred current) (newest-stands h.0.front current h.2.1 h.2.0).0)),
-  h.5,
-)
-holding-frame needs words new me held now line after more cut (Unlink seen newer word older) less grown none same h = (
-  work-frame held now line after more seen less grown h.0,
-  h.1,
-  h.2,
-  (h.3.0, h.3.1, ahead-frame words new h.0.behind (λ place there. ap (λ (w : LineWord). w.newer) (same place (work-behind held line seen h.0 place there))) h.3.2),
-  h.4 ∙ sym (same (pred newer) (work-behind held line seen h.0 (pred newer) (oldest-stands h.0.behind newer h.3.1 h.3.0).0)),
-)
-holding-frame needs words new me held now line after more cut (DropTail seen older) less grown none same h =
-    (work-frame held now line after more seen less grown h.0, h.1, h.2, h.3)
-holding-frame needs words new me held now line after more cut PoisonLoad less grown none same h = h
-holding-frame needs words new me held now line after more cut (PoisonExchange seen) less grown none same h = h
-holding-frame needs words new me held now line after more cut Clear less grown none same h = h
+-- Less is held, more have joined, and the line words of those in line are as they were
+module _ (words new : ℕ → LineWord) (held now : ℕ) (line after more : List (ℕ × ℕ)) (less : now ≤ held) (grown : after ≡ line ++ more)
+    (same : (place : ℕ) → 0 < times place line → new place ≡ words place) where
+  abbrev framed : (seen : Word) → Work held line seen → Work now after seen
+  framed seen work = record {
+    front = work.front;
+    behind = work.behind;
+    joined = work.joined ++ more;
+    parts = grown ∙ ap (λ (l : List (ℕ × ℕ)). l ++ more) work.parts
+        ∙ append_assoc work.front (work.behind ++ work.joined) more
+        ∙ ap (λ (l : List (ℕ × ℕ)). work.front ++ l) (append_assoc work.behind work.joined more);
+    tail = work.tail;
+    count = omega (arith, less, work.count);
+  }
+
+  ahead : (seen : Word) (work : Work held line seen) → IsAhead words work.behind → IsAhead new work.behind
+  ahead seen work =
+      ahead-frame words new work.behind (λ place there. ap (λ (w : LineWord). w.newer) (same place (work-behind held line seen work place there)))
+
+  -- the line word of the first of those behind the front, and of the last of that
+  first : (seen : Word) (work : Work held line seen) (current : ℕ) → IsAt words work.behind current → words (pred current) ≡ new (pred current)
+  first seen work current at = sym (same (pred current) (work-behind held line seen work (pred current) (oldest-stands work.behind current at.1 at.0).0))
+
+  last : (seen : Word) (work : Work held line seen) (current newer : ℕ) → IsBack words work.front work.behind current newer
+      → words (pred current) ≡ new (pred current)
+  last seen work current newer back =
+      sym (same (pred current) (work-front held line seen work (pred current) (newest-stands work.front current back.1 back.0).0))
+
+  -- what the holder knows holds still
+  pub holding-frame : (needs : Needs) (me : ℕ) (cut : List (ℕ × ℕ)) (stage : Stage) → is_in me more ≡ false
+      → IsHolding needs words me held line cut stage → IsHolding needs new me now after cut stage
+  holding-frame needs me cut (BackLoad seen current newer) none h = (framed seen h.0, h.1, (h.2.0, h.2.1, h.2.2, ahead seen h.0 h.2.3))
+  holding-frame needs me cut (BackStore seen current newer word) none h =
+      (framed seen h.0, h.1, (h.2.0, h.2.1, h.2.2, ahead seen h.0 h.2.3), h.3 ∙ last seen h.0 current newer h.2)
+  holding-frame needs me cut (Forward seen current count) none h = (framed seen h.0, h.1, h.2, (h.3.0, h.3.1, ahead seen h.0 h.3.2))
+  holding-frame needs me cut (CutToClose seen current count word) none h =
+      (framed seen h.0, h.1, h.2, (h.3.0, h.3.1, ahead seen h.0 h.3.2), h.4 ∙ first seen h.0 current h.3, h.5)
+  holding-frame needs me cut (CutForRetry seen current count word) none h =
+      (framed seen h.0, h.1, h.2, (h.3.0, h.3.1, ahead seen h.0 h.3.2), h.4 ∙ first seen h.0 current h.3)
+  holding-frame needs me cut (Close seen count top) none h = (framed seen h.0, h.1, h.2, h.3, h.4, h.5)
+  holding-frame needs me cut (Empty seen current count word) none h =
+      (framed seen h.0, h.1, h.2, (h.3.0, h.3.1, ahead seen h.0 h.3.2), h.4 ∙ first seen h.0 current h.3, h.5, h.6, h.7)
+  holding-frame needs me cut (Retry seen count top) none h = (framed seen h.0, h.1, h.2, h.3, h.4)
+  holding-frame needs me cut (ShowLoad current value (Again seen)) none h = (framed seen h.0, h.1, h.2, h.3)
+  holding-frame needs me cut (ShowStore current next value (Again seen)) none h = (framed seen h.0, h.1, h.2, h.3)
+  holding-frame needs me cut (LookLoad seen current newer previous) none h = (
+    framed seen h.0,
+    h.1,
+    (h.2.0, h.2.1, h.2.2, ahead seen h.0 h.2.3),
+    passed-more me h.0.behind h.0.joined more none h.3,
+    λ some. h.4 some ∙ first seen h.0 newer (h.2.2, some, h.2.3),
+  )
+  holding-frame needs me cut (LookStore seen current newer word) none h = (
+    framed seen h.0,
+    h.1,
+    (h.2.0, h.2.1, h.2.2, ahead seen h.0 h.2.3),
+    passed-more me h.0.behind h.0.joined more none h.3,
+    h.4 ∙ last seen h.0 current newer h.2,
+    h.5,
+  )
+  holding-frame needs me cut (Unlink seen newer word older) none h =
+      (framed seen h.0, h.1, h.2, (h.3.0, h.3.1, ahead seen h.0 h.3.2), h.4 ∙ first seen h.0 newer h.3)
+  holding-frame needs me cut (DropTail seen older) none h = (framed seen h.0, h.1, h.2, h.3)
+  holding-frame needs me cut _ none h = h
 
 -- What is so of each place, where one moved and the others remember what they did
 pub stages-next : (needs : Needs) (words new : ℕ → LineWord) (standing : ℕ → Place) (held now : ℕ) (line after cut off : List (ℕ × ℕ))

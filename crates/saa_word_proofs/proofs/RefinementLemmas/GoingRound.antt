@@ -3,20 +3,17 @@ use Rattle.std.proofs.Common.{◌≡◌, ℕ, ◌+◌, ◌-◌, ◌/◌, ◌%◌
 use Rattle.std.proofs.lemmas.Bool.{cases_Bool}
 use Rattle.saa_core_words.specs.declared.word.Word.{Word}
 use Rattle.saa_core_words.specs.Words.{count_bits, word_of}
-use Rattle.saa_word_steps.specs.declared.place.Place.{Place}
 use Rattle.saa_word_steps.specs.declared.place.AfterShow.TheVariants.{Again}
-use Rattle.saa_word_steps.specs.declared.place.Stage.{Stage}
 use Rattle.saa_word_steps.specs.declared.place.Stage.TheVariants.{BackLoad, Retry, ShowLoad}
 use Rattle.saa_word_steps.specs.Needs.{Needs, AreNeeds}
 use Rattle.saa_word_steps.specs.AbstractState.{AbstractState, IsFront, IsSettledAt, is_empty, takes_of}
-use Rattle.saa_word_proofs.specs.Refinement.{newest, is_holder, IsLocallyTrue, IsShowing, Work, IsHolding, IsMain, Invariant}
+use Rattle.saa_word_proofs.specs.Refinement.{newest, is_holder, Work, IsMain}
 use Rattle.saa_word_proofs.specs.Rows.{line_of}
-use Rattle.saa_word_proofs.specs.StepRefinement.{StepRefines}
-use Rattle.saa_word_proofs.proofs.RefinementLemmas.Lists.{front-lower}
-use Rattle.saa_word_proofs.proofs.RefinementLemmas.Rows.{apart-at, count-small}
-use Rattle.saa_word_proofs.proofs.RefinementLemmas.Holders.{calm-held, never-barren}
-use Rattle.saa_word_proofs.proofs.RefinementLemmas.Granting.{granted, round-run, some-append, newest-rest, settled-front, front-bounded, front-none, front-some, parts-linked, granting}
-use Rattle.saa_word_proofs.proofs.RefinementLemmas.Linking.{flag-held}
+use Rattle.saa_word_proofs.proofs.RefinementLemmas.Lists.{front-lower, front-none, front-some}
+use Rattle.saa_word_proofs.proofs.RefinementLemmas.Rows.{IsStep, at-stage, count-small}
+use Rattle.saa_word_proofs.proofs.RefinementLemmas.Holders.{some-append, calm-held, never-barren}
+use Rattle.saa_word_proofs.proofs.RefinementLemmas.Granting.{granted, round-run, newest-rest, settled-front, front-bounded, parts-linked, granting, by-grant}
+use Rattle.saa_word_proofs.proofs.RefinementLemmas.Frames.{whole-work}
 
 -- an addition within the bits of the count raises it, and leaves all else
 raised-word : (number more : ℕ) → number % 2 ^ count_bits + more < 2 ^ count_bits
@@ -64,60 +61,47 @@ raised-main needs lawful wide state me number holder more front rest calm was fi
     }
 
 -- A holder that retries adds what it granted to the count, shows the answers, and walks anew
-pub step-Retry : (needs : Needs) → AreNeeds needs → needs.top < 2 ^ count_bits → (places : ℕ) (row : ℕ → ℕ) (standing : ℕ → Place) (state : AbstractState) (me : ℕ)
-    → places < 65536 → (s : Invariant needs places row standing state)
-    → (seen : Word) (count top : ℕ) → (standing me).stage ≡ Retry seen count top → StepRefines needs places row standing state me (Retry seen count top)
-step-Retry needs lawful wide places row standing state me room s seen count top at =
-    let mine : s.holder ≡ me + 1 = flag-held needs places row standing state me s (ap is_holder at) in
-    let none = subst (λ (stage : Stage). IsShowing (s.owed me) (s.answer_value me) stage) at (s.stages.showing me) in
-    let holding = subst (λ (stage : Stage). IsHolding needs (line_of row) me state.count state.line s.cut stage) at (s.stages.holding me mine) in
-    let work : Work state.count state.line seen = holding.0 in
+pub step-Retry : (seen : Word) (count top : ℕ) → IsStep (Retry seen count top)
+step-Retry seen count top needs lawful wide places row standing state me room s at =
+    let known = at-stage needs places row standing state me s _ at in
+    let mine = known.mine refl in
+    let work : Work state.count state.line seen = (known.holding mine).0 in
     let rest : List (ℕ × ℕ) = work.behind ++ work.joined in
-    let some : is_empty rest ≡ false = some-append work.behind work.joined holding.4 in
-    let fits : IsFront needs state.count work.front = front-lower needs lawful state.count seen.count work.front work.count holding.2.0 in
-    let adds : count - seen.count ≡ takes_of needs work.front = omega (arith, holding.2.1) in
+    let some : is_empty rest ≡ false = some-append work.behind work.joined (known.holding mine).4 in
+    let fits : IsFront needs state.count work.front = front-lower needs lawful state.count seen.count work.front work.count (known.holding mine).2.0 in
+    let adds : count - seen.count ≡ takes_of needs work.front = omega (arith, (known.holding mine).2.1) in
     let number : ℕ = (row 0 + (count - seen.count)) % 2 ^ 64 in
     let now : Word = word_of count_bits number in
     let main : IsMain needs number (granted needs state me work.front rest state.unclosed) s.holder =
     raised-main needs lawful wide state me (row 0) s.holder (count - seen.count) work.front rest
     (calm-held needs places row standing state me s mine) s.main fits work.parts some adds in
-    let linked = parts-linked (line_of row) state.line s.cut s.uncut work.front rest s.line holding.1 work.parts in
+    let linked = parts-linked (line_of row) state.line s.cut s.uncut work.front rest s.line (known.holding mine).1 work.parts in
     let grant = round-run needs state me work.front rest work.parts fits s.main.settled in
     let held : state.count + takes_of needs work.front ≤ now.count = omega (arith, main.count) in
-    let tail : now.tail ≡ newest 0 (rest ++ []) = main.tail ∙ ap (λ (l : List (ℕ × ℕ)). newest 0 l) (sym (append-nil rest)) in
-    let alone = subst (λ (stage : Stage). IsLocallyTrue needs (standing me).registration (standing me).back stage) at (s.stages.alone me) in
-    let apart = apart-at needs places row standing state me s (Retry seen count top) at in
     let holder : true ≡ (s.holder == me + 1) = sym (ap is_holder at) ∙ s.stages.one me in
-    record {
-      events = grant.events;
-      last = granted needs state me work.front rest state.unclosed;
-      run = grant.run;
-      names = grant.names;
-      inside = omega arith;
-      stands =
-          elim (cases_Bool (top == 0)) [
-            | inl empty ↦
-                let front : work.front ≡ [] = front-none work.front top holding.3 empty in
-                rw empty
-                (granting needs places row standing state me s number (BackLoad now now.tail 0) work.front rest s.holder state.unclosed
-                (λ out. refl) mine none work.parts linked.0 linked.1 main (count-small number) alone apart tt front holder
-                (λ is. (
-                  record { front = rest; behind = []; joined = []; parts = sym (append-nil rest); tail = tail; count = held },
-                  refl,
-                  (main.tail, some, refl, tt),
-                ))
-                (λ other apart. refl))
-            | inr there ↦
-                let front : is_empty work.front ≡ false = front-some work.front top holding.3 there in
-                rw there
-                (granting needs places row standing state me s number (ShowLoad top 0 (Again now)) work.front rest s.holder state.unclosed
-                (λ out. refl) mine none work.parts linked.0 linked.1 main (count-small number) alone apart tt (sym holding.3, front, refl) holder
-                (λ is. (
-                  record { front = []; behind = rest; joined = []; parts = sym (append-nil rest); tail = main.tail; count = held },
-                  refl,
-                  refl,
-                  some,
-                ))
-                (λ other apart. refl))
-          ];
-    }
+    by-grant grant refl (omega arith)
+    (elim (cases_Bool (top == 0)) [
+      | inl empty ↦
+          let front : work.front ≡ [] = front-none work.front top (known.holding mine).3 empty in
+          rw empty
+          (granting needs places row standing state me s number (BackLoad now now.tail 0) work.front rest s.holder state.unclosed
+          (λ out. refl) mine known.showing work.parts linked.0 linked.1 main (count-small number) known.alone known.apart tt front holder
+          (λ is. (
+            whole-work (state.count + takes_of needs work.front) rest now main.tail held,
+            refl,
+            (main.tail, some, refl, tt),
+          ))
+          (λ other apart. refl))
+      | inr there ↦
+          let front : is_empty work.front ≡ false = front-some work.front top (known.holding mine).3 there in
+          rw there
+          (granting needs places row standing state me s number (ShowLoad top 0 (Again now)) work.front rest s.holder state.unclosed
+          (λ out. refl) mine known.showing work.parts linked.0 linked.1 main (count-small number) known.alone known.apart tt (sym (known.holding mine).3, front, refl) holder
+          (λ is. (
+            record { front = []; behind = rest; joined = []; parts = sym (append-nil rest); tail = main.tail; count = held },
+            refl,
+            refl,
+            some,
+          ))
+          (λ other apart. refl))
+    ])

@@ -1,5 +1,5 @@
 -- The waiters of a front are granted: they leave the line, and the place that granted them owes their answers.
-use Rattle.std.proofs.Common.{◌≡◌, ℕ, ◌+◌, ◌<◌, ◌≤◌, Bool, true, false, ◌||◌, List, [], ◌∷◌, ◌++◌, length, take, drop, ◌==◌, Some, is_some, refl, sym, ap, subst, ◌∙◌, arith, inl, inr, ◌^◌}
+use Rattle.std.proofs.Common.{◌≡◌, ℕ, ◌+◌, ◌<◌, ◌≤◌, Bool, true, false, List, [], ◌∷◌, ◌++◌, length, take, drop, ◌==◌, Some, is_some, refl, sym, ap, subst, ◌∙◌, arith, inl, inr, ◌^◌}
 use Rattle.std.proofs.lemmas.Bool.{cases_Bool}
 use Rattle.std.proofs.Math.ListN.{length-append}
 use Rattle.saa_core_spec.specs.Object.{one_if, times}
@@ -14,15 +14,16 @@ use Rattle.saa_word_steps.specs.Needs.{Needs, AreNeeds, fits_count}
 use Rattle.saa_word_steps.specs.declared.event.Event.{Event}
 use Rattle.saa_word_steps.specs.declared.event.Event.TheVariants.{Granted, Closed}
 use Rattle.saa_word_steps.specs.AbstractState.{AbstractState, IsEnabled, after_event, IsRun, IsFront, IsSettledAt, is_empty, is_in, takes_of, answered_with, granted_by, held_by}
-use Rattle.saa_word_steps.specs.Steps.{IsRanged, settled_word}
+use Rattle.saa_word_steps.specs.Steps.{IsRanged, settled_word, word_at, operation_of, next_of}
 use Rattle.saa_word_proofs.specs.Refinement.{joins_line, newest, is_holder, gives_up, IsLocallyTrue, IsOwn, IsShowing, IsHolding, IsMain, IsLine, AreSeats, AreDebts, Invariant}
 use Rattle.saa_word_proofs.specs.Rows.{IsBehind, line_of, updated}
 use Rattle.saa_word_proofs.specs.Registering.{is_slot}
 use Rattle.saa_word_proofs.specs.History.{named, of_place}
-use Rattle.saa_word_proofs.proofs.RefinementLemmas.Lists.{each-updated, in-append, in-none, newest-append, newest-any, newest-empty, empty-nil, take-front, drop-front}
+use Rattle.saa_word_proofs.proofs.RefinementLemmas.Lists.{neither, each-updated, in-append, in-none, newest-append, newest-any, take-front, drop-front}
 use Rattle.saa_word_proofs.proofs.RefinementLemmas.Frames.{stages-next}
 use Rattle.saa_word_proofs.proofs.RefinementLemmas.Holders.{never-barren}
-use Rattle.saa_word_proofs.proofs.RefinementLemmas.Rows.{word-whole, line-main, row-other, seats-next}
+use Rattle.saa_word_proofs.specs.StepRefinement.{StepRefines, named_at, place_after, row_after}
+use Rattle.saa_word_proofs.proofs.RefinementLemmas.Rows.{word-whole, line-main, seats-next, answers-kept}
 
 -- The object once a place granted those of a front, with the rest of the line
 abbrev pub granted : Needs → AbstractState → ℕ → List (ℕ × ℕ) → List (ℕ × ℕ) → Bool → AbstractState
@@ -40,15 +41,21 @@ pub record IsGrant (needs : Needs) (state : AbstractState) (me : ℕ) (last : Ab
   pub run : IsRun needs state (of_place me events) last
   pub names : named events ≡ []
 
+-- a step whose events are those of a grant
+pub by-grant : {needs : Needs} {places : ℕ} {row : ℕ → ℕ} {standing : ℕ → Place} {state last : AbstractState} {me : ℕ} {stage : Stage}
+    → IsGrant needs state me last → [] ≡ named_at needs stage (row (word_at (operation_of needs places me stage)))
+    → word_at (operation_of needs places me stage) < places + places + 1
+    → Invariant needs places (row_after row (operation_of needs places me stage))
+    (updated standing me (place_after (standing me) (next_of needs me (standing me) stage (row (word_at (operation_of needs places me stage)))))) last
+    → StepRefines needs places row standing state me stage
+by-grant {last = last} grant names inside stands =
+    record { events = grant.events; last = last; run = grant.run; names = grant.names ∙ names; inside = inside; stands = stands }
+
 -- Lines
 
 -- a line is what is before it, and the rest is what is left of it
 pub same-rest : (front one other : List (ℕ × ℕ)) → front ++ one ≡ front ++ other → one ≡ other
 same-rest front one other same = sym (drop-front front one) ∙ ap (λ (l : List (ℕ × ℕ)). drop (length front) l) same ∙ drop-front front other
-
-pub some-append : (front behind : List (ℕ × ℕ)) → is_empty front ≡ false → is_empty (front ++ behind) ≡ false
-some-append [] behind some = absurd (cc)
-some-append (asker ∷ rest) behind some = refl
 
 -- the newest of a line is that of its rest, where somebody stands in that
 pub newest-rest : (older : ℕ) (front rest : List (ℕ × ℕ)) → is_empty rest ≡ false → newest older (front ++ rest) ≡ newest 0 rest
@@ -101,13 +108,6 @@ in-no place (asker ∷ rest) none =
 pub times-parts : (place : ℕ) (line front rest : List (ℕ × ℕ)) → line ≡ front ++ rest
     → times place line ≡ times place front + times place rest
 times-parts place line front rest parts = ap (λ (l : List (ℕ × ℕ)). times place l) parts ∙ times-append place front rest
-
--- the newest of a front is there exactly where somebody stands in it
-pub front-none : (front : List (ℕ × ℕ)) (top : ℕ) → top ≡ newest 0 front → top == 0 ≡ true → front ≡ []
-front-none front top is none = empty-nil front (sym (newest-empty front) ∙ ap (λ (n : ℕ). n == 0) (sym is) ∙ none)
-
-pub front-some : (front : List (ℕ × ℕ)) (top : ℕ) → top ≡ newest 0 front → top == 0 ≡ false → is_empty front ≡ false
-front-some front top is some = sym (newest-empty front) ∙ ap (λ (n : ℕ). n == 0) (sym is) ∙ some
 
 -- a line behind the granted waiters is linked, and so are they
 pub parts-linked : (words : ℕ → LineWord) (line cut uncut front rest : List (ℕ × ℕ)) → IsLine words line cut uncut → cut ≡ front
@@ -291,11 +291,7 @@ settled-main needs state me front rest count tail calm small room adds bounded i
 -- a place that is in no line is in no part of it
 pub out-of-rest : (place : ℕ) (front rest line : List (ℕ × ℕ)) → line ≡ front ++ rest → is_in place line ≡ false → is_in place rest ≡ false
 out-of-rest place front rest line parts out =
-    out-of-both (is_in place front) (is_in place rest) (sym (ap (is_in place) parts ∙ in-append place front rest) ∙ out)
-  where
-    out-of-both : (one other : Bool) → one || other ≡ false → other ≡ false
-    out-of-both true other h = absurd (cc)
-    out-of-both false other h = h
+    (neither (is_in place front) (is_in place rest) (sym (ap (is_in place) parts ∙ in-append place front rest) ∙ out)).1
 
 -- The holder grants a front by a write to the main word, and goes on at a stage
 pub granting : (needs : Needs) (places : ℕ) (row : ℕ → ℕ) (standing : ℕ → Place) (state : AbstractState) (me : ℕ) (s : Invariant needs places row standing state)
@@ -312,7 +308,6 @@ pub granting : (needs : Needs) (places : ℕ) (row : ℕ → ℕ) (standing : �
 granting needs places row standing state me s number stage front rest next unclosed free mine none parts linked stays main ranged alone apart own showing
     holder holding others =
     let once = held-once places standing state s.seats in
-    let seats = seats-next places standing state me (record (standing me) { stage = stage }) s.seats free refl in
     let debts = debts-granted (line_of row) state s.owed s.answer_value me 0 front rest s.debts (omega arith) parts once none linked in
     let stages = stages-next needs (line_of row) (line_of row) standing state.count (state.count + takes_of needs front) state.line rest s.cut []
     s.holder next s.owed (updated s.owed me front) s.answer_value (updated s.answer_value me 0) me (record (standing me) { stage = stage }) s.stages
@@ -332,15 +327,9 @@ granting needs places row standing state me s number stage front rest next unclo
       free = λ unheld. refl;
       main = main;
       line = record { parts = refl; granted = tt; stays = rw (line-main row number) stays; some = λ gone. refl };
-      seats = record {
-        held = λ place. held-granted needs state me front rest unclosed place parts (once place) ∙ seats.held place;
-        within = seats.within;
-        beyond = seats.beyond;
-      };
-      answers = record {
-        words = λ place inside. row-other row 0 number (places + place + 1) (λ is. absurd (omega (arith, is))) ∙ s.answers.words place inside;
-        small = s.answers.small;
-      };
+      seats = seats-next places standing state (granted needs state me front rest unclosed) me (record (standing me) { stage = stage }) s.seats free refl
+          (λ place. held-granted needs state me front rest unclosed place parts (once place));
+      answers = answers-kept places row 0 number state.shown (omega arith) s.answers;
       debts = rw (line-main row number) debts;
       stages = rw (line-main row number) stages;
     }

@@ -1,5 +1,5 @@
 -- Where nobody waits nobody holds the flag; and the main word as an exchange has written it.
-use Rattle.std.proofs.Common.{◌≡◌, ℕ, ◌+◌, ◌<◌, ◌≤◌, pred, true, false, not, List, [], ◌∷◌, ◌++◌, ◌==◌, if◌then◌else◌, refl, sym, ap, ◌∙◌, arith, inl, inr}
+use Rattle.std.proofs.Common.{◌≡◌, ℕ, ◌+◌, ◌<◌, ◌≤◌, pred, true, false, not, List, [], ◌∷◌, ◌++◌, ◌==◌, refl, sym, ap, ◌∙◌, arith, inl, inr}
 use Rattle.std.proofs.lemmas.Bool.{cases_Bool}
 use Rattle.std.proofs.lemmas.Bool.Decides.{nat_tests}
 use Rattle.saa_core_words.specs.declared.word.Word.{Word}
@@ -7,42 +7,34 @@ use Rattle.saa_core_words.specs.declared.line_word.LineWord.{LineWord}
 use Rattle.saa_core_words.specs.Words.{count_bits, word_number}
 use Rattle.saa_core_words.proofs.Words.{word-read}
 use Rattle.saa_word_steps.specs.declared.place.Place.{Place}
-use Rattle.saa_word_steps.specs.declared.place.AfterShow.TheVariants.{Ends, Again}
+use Rattle.saa_word_steps.specs.declared.place.AfterShow.TheVariants.{Again}
 use Rattle.saa_word_steps.specs.declared.place.Stage.{Stage}
-use Rattle.saa_word_steps.specs.declared.place.Stage.TheVariants.{Quiet, ReadLoad, AcquireLoad, AcquireExchange, Prepare, Join, ReleaseLoad, ReleaseExchange, BackLoad, BackStore, Forward, CutToClose, CutForRetry, Close, Empty, Retry, ShowLoad, ShowStore, Take, FlagLoad, FlagExchange, LookLoad, LookStore, Unlink, DropTail, PoisonLoad, PoisonExchange, Clear}
+use Rattle.saa_word_steps.specs.declared.place.Stage.TheVariants.{BackLoad, BackStore, Forward, CutToClose, CutForRetry, Close, Empty, Retry, ShowLoad, ShowStore, LookLoad, LookStore, Unlink, DropTail}
 use Rattle.saa_word_steps.specs.Needs.{Needs, kept}
 use Rattle.saa_word_steps.specs.AbstractState.{AbstractState, is_empty, IsSettledAt}
 use Rattle.saa_word_steps.specs.Steps.{IsSmall}
 use Rattle.saa_word_proofs.specs.Refinement.{newest, Work, IsHolding, IsMain, Invariant}
-use Rattle.saa_word_proofs.specs.Rows.{line_of, updated}
-use Rattle.saa_word_proofs.proofs.RefinementLemmas.Rows.{word-whole, loaded}
+use Rattle.saa_word_proofs.specs.Rows.{line_of}
+use Rattle.saa_word_proofs.proofs.RefinementLemmas.Rows.{word-whole}
 
 -- a line whose front or whose rest isn't empty isn't empty
-some-front : (front behind : List (ℕ × ℕ)) → is_empty front ≡ false → is_empty (front ++ behind) ≡ false
-some-front [] behind some = absurd (cc)
-some-front (asker ∷ rest) behind some = refl
+pub some-append : (front behind : List (ℕ × ℕ)) → is_empty front ≡ false → is_empty (front ++ behind) ≡ false
+some-append [] behind some = absurd (cc)
+some-append (asker ∷ rest) behind some = refl
 
-some-behind : (front behind : List (ℕ × ℕ)) → is_empty behind ≡ false → is_empty (front ++ behind) ≡ false
+pub some-behind : (front behind : List (ℕ × ℕ)) → is_empty behind ≡ false → is_empty (front ++ behind) ≡ false
 some-behind [] behind some = some
 some-behind (asker ∷ rest) behind some = refl
 
 front-waits : (held : ℕ) (line : List (ℕ × ℕ)) (seen : Word) (work : Work held line seen) → is_empty work.front ≡ false → is_empty line ≡ false
-front-waits held line seen work some = rw work.parts (some-front work.front (work.behind ++ work.joined) some)
+front-waits held line seen work some = rw work.parts (some-append work.front (work.behind ++ work.joined) some)
 
 behind-waits : (held : ℕ) (line : List (ℕ × ℕ)) (seen : Word) (work : Work held line seen) → is_empty work.behind ≡ false → is_empty line ≡ false
-behind-waits held line seen work some = rw work.parts (some-behind work.front (work.behind ++ work.joined) (some-front work.behind work.joined some))
+behind-waits held line seen work some = rw work.parts (some-behind work.front (work.behind ++ work.joined) (some-append work.behind work.joined some))
 
 -- somebody waits wherever the flag is held
 pub holding-some : (needs : Needs) (words : ℕ → LineWord) (me held : ℕ) (line cut : List (ℕ × ℕ)) (stage : Stage)
     → IsHolding needs words me held line cut stage → is_empty line ≡ false
-holding-some needs words me held line cut Quiet h = absurd h
-holding-some needs words me held line cut (ReadLoad reading) h = absurd h
-holding-some needs words me held line cut (AcquireLoad ask) h = absurd h
-holding-some needs words me held line cut (AcquireExchange ask seen) h = absurd h
-holding-some needs words me held line cut (Prepare request seen) h = absurd h
-holding-some needs words me held line cut (Join request seen) h = absurd h
-holding-some needs words me held line cut (ReleaseLoad given) h = absurd h
-holding-some needs words me held line cut (ReleaseExchange given seen) h = absurd h
 holding-some needs words me held line cut (BackLoad seen current newer) h = front-waits held line seen h.0 h.2.1
 holding-some needs words me held line cut (BackStore seen current newer word) h = front-waits held line seen h.0 h.2.1
 holding-some needs words me held line cut (Forward seen current count) h = behind-waits held line seen h.0 h.3.1
@@ -51,21 +43,14 @@ holding-some needs words me held line cut (CutForRetry seen current count word) 
 holding-some needs words me held line cut (Close seen count top) h = behind-waits held line seen h.0 h.4
 holding-some needs words me held line cut (Empty seen current count word) h = behind-waits held line seen h.0 h.3.1
 holding-some needs words me held line cut (Retry seen count top) h = behind-waits held line seen h.0 h.4
-holding-some needs words me held line cut (ShowLoad current value Ends) h = absurd h
-holding-some needs words me held line cut (ShowStore current next value Ends) h = absurd h
 holding-some needs words me held line cut (ShowLoad current value (Again seen)) h = behind-waits held line seen h.0 h.3
 holding-some needs words me held line cut (ShowStore current next value (Again seen)) h = behind-waits held line seen h.0 h.3
-holding-some needs words me held line cut (Take taking) h = absurd h
-holding-some needs words me held line cut FlagLoad h = absurd h
-holding-some needs words me held line cut (FlagExchange seen) h = absurd h
 holding-some needs words me held line cut (LookLoad seen current newer previous) h = front-waits held line seen h.0 h.2.1
 holding-some needs words me held line cut (LookStore seen current newer word) h = front-waits held line seen h.0 h.2.1
 holding-some needs words me held line cut (Unlink seen newer word older) h = behind-waits held line seen h.0 h.3.1
 holding-some needs words me held line cut (DropTail seen older) h =
     front-waits held line seen h.0 (rw h.2.2 (some-behind h.2.0 ((me, h.2.1) ∷ []) refl))
-holding-some needs words me held line cut PoisonLoad h = absurd h
-holding-some needs words me held line cut (PoisonExchange seen) h = absurd h
-holding-some needs words me held line cut Clear h = absurd h
+holding-some needs words me held line cut _ h = absurd h
 
 -- where nobody waits nobody holds the flag
 pub nobody-holds : (needs : Needs) (places : ℕ) (row : ℕ → ℕ) (standing : ℕ → Place) (state : AbstractState) (s : Invariant needs places row standing state)
@@ -97,11 +82,6 @@ main-now needs state holder word small tail_small count tail flag poison barren 
       closed = closed;
       settled = settled;
     }
-
--- an exchange that fails leaves the row
-pub failed : (needs : Needs) (places : ℕ) (row : ℕ → ℕ) (standing : ℕ → Place) (state : AbstractState) (old new : ℕ) → row 0 == old ≡ false
-    → Invariant needs places row standing state → Invariant needs places (updated row 0 (if row 0 == old then new else row 0)) standing state
-failed needs places row standing state old new test s = rw test (loaded needs places row standing state 0 s)
 
 -- where somebody waits, or holds the flag, nothing is poisoned
 pub calm-some : (needs : Needs) (number : ℕ) (state : AbstractState) (holder : ℕ) → IsMain needs number state holder → is_empty state.line ≡ false → state.poisoned ≡ false

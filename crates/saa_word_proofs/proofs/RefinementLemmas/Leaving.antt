@@ -13,13 +13,13 @@ use Rattle.saa_word_steps.specs.Needs.{Needs}
 use Rattle.saa_word_steps.specs.declared.event.Event.TheVariants.{Cancelled}
 use Rattle.saa_word_steps.specs.AbstractState.{AbstractState, IsRun, is_empty, is_in, held_by}
 use Rattle.saa_word_steps.specs.Steps.{IsRanged, left_line}
-use Rattle.saa_word_proofs.specs.Refinement.{joins_line, newest, is_holder, gives_up, IsLocallyTrue, IsOwn, IsShowing, Work, IsFound, IsHolding, IsMain, AreSeats, AreDebts, Invariant}
+use Rattle.saa_word_proofs.specs.Refinement.{newest, is_holder, gives_up, IsLocallyTrue, IsOwn, IsShowing, Work, IsFound, IsHolding, IsMain, AreSeats, AreDebts, Invariant}
 use Rattle.saa_word_proofs.specs.Rows.{IsBehind, line_of, updated}
 use Rattle.saa_word_proofs.specs.Registering.{is_slot}
 use Rattle.saa_word_proofs.specs.History.{of_place}
-use Rattle.saa_word_proofs.proofs.RefinementLemmas.Lists.{each-updated, in-none, in-some, newest-append, newest-in, empty-nil, behind-append, behind-frame, behind-front, behind-rest}
+use Rattle.saa_word_proofs.proofs.RefinementLemmas.Lists.{each-updated, in-none, in-some, newest-append, newest-in, empty-nil, behind-append, behind-same, behind-front, behind-rest}
 use Rattle.saa_word_proofs.proofs.RefinementLemmas.Frames.{stages-next}
-use Rattle.saa_word_proofs.proofs.RefinementLemmas.Rows.{row-other, own-any}
+use Rattle.saa_word_proofs.proofs.RefinementLemmas.Rows.{own-any, seats-by, debts-kept, answers-kept}
 use Rattle.saa_word_proofs.proofs.RefinementLemmas.Granting.{in-waits, in-no}
 use Rattle.saa_word_proofs.proofs.RefinementLemmas.Linking.{apart-by, in-line, line-room}
 
@@ -118,15 +118,12 @@ pub unlinked : (words new : ℕ → LineWord) (before rest : List (ℕ × ℕ)) 
 unlinked words new before rest gone asker linked once request older others =
     let second = behind-rest words 0 before (gone ∷ (asker ∷ rest)) linked in
     behind-append new 0 before (asker ∷ rest)
-    (behind-frame words new 0 before (λ place there. kept place (not-before place there)) (behind-front words 0 before (gone ∷ (asker ∷ rest)) linked)) (
+    (behind-same words new 0 before (λ place there. others place (not-before place there)) (behind-front words 0 before (gone ∷ (asker ∷ rest)) linked)) (
       request ∙ second.2.0,
       older,
-      behind-frame words new (asker.0 + 1) rest (λ place there. kept place (not-behind place there)) second.2.2,
+      behind-same words new (asker.0 + 1) rest (λ place there. others place (not-behind place there)) second.2.2,
     )
   where
-    kept : (place : ℕ) → (place ≡ asker.0 → ⊥) → ((new place).request ≡ (words place).request) × ((new place).older ≡ (words place).older)
-    kept place apart = (ap (λ (w : LineWord). w.request) (others place apart), ap (λ (w : LineWord). w.older) (others place apart))
-
     not-before : (place : ℕ) → 0 < times place before → place ≡ asker.0 → ⊥
     not-before place there is =
         omega (arith, once, times-append asker.0 before (gone ∷ (asker ∷ rest)), one_if-same asker.0, there, ap (λ (n : ℕ). times n before) is)
@@ -164,16 +161,11 @@ seats-left places standing state me request before after stage was here parts =
     let waits : 0 < times me state.line = omega (arith, counted me, one_if-same me) in
     let slot : is_slot (standing me).registration ≡ true = (in-line places standing state me was waits).1 in
     let place_now : Place = record (left_line (standing me)) { stage = stage } in
-    record {
-      held = each-updated (λ (n : ℕ) (p : Place). held_by n (left state (before ++ after)) ≡ one_if (is_slot p.registration)) standing me place_now
-          (omega (arith, counted me, one_if-same me, was.held me, ap one_if slot))
-          (λ other apart.
-          omega (arith, counted other, ap one_if (number_other me other (λ is. apart (sym is))), was.held other));
-      within = each-updated (λ (n : ℕ) (p : Place). is_slot p.registration ≡ true → n < places) standing me place_now (λ slot. here)
-          (λ other apart. was.within other);
-      beyond = each-updated (λ (n : ℕ) (p : Place). places ≤ n → joins_line p.stage ≡ false) standing me place_now (λ out. absurd (omega (arith, out, here)))
-          (λ other apart. was.beyond other);
-    }
+    seats-by places standing state (left state (before ++ after)) me place_now was
+    (each-updated (λ (n : ℕ) (p : Place). held_by n (left state (before ++ after)) ≡ one_if (is_slot p.registration)) standing me place_now
+    (omega (arith, counted me, one_if-same me, was.held me, ap one_if slot))
+    (λ other apart. omega (arith, counted other, ap one_if (number_other me other (λ is. apart (sym is))), was.held other)))
+    (λ slot. here) (λ out. absurd (omega (arith, out, here)))
 
 -- no answer is due to a waiter, so nobody owes it one
 pub owed-out : (places : ℕ) (words : ℕ → LineWord) (standing : ℕ → Place) (state : AbstractState) (owed : ℕ → List (ℕ × ℕ)) (answer_value : ℕ → ℕ)
@@ -215,22 +207,9 @@ leaving needs places row standing state me s at number request stage before afte
       main = main;
       line = record { parts = refl; granted = tt; stays = linked; some = λ none. refl };
       seats = seats-left places standing state me request before after stage s.seats here parts;
-      answers = record {
-        words = λ place inside. row-other row at number (places + place + 1) (λ is. omega (arith, is, below)) ∙ s.answers.words place inside;
-        small = s.answers.small;
-      };
-      debts = record {
-        due_to = s.debts.due_to;
-        paid_by = s.debts.paid_by;
-        once = s.debts.once;
-        small = s.debts.small;
-        links = λ place.
-            behind-frame (line_of row) (line_of (updated row at number)) 0 (s.owed place)
-            (λ other owes.
-            let same = words other (owed-out places (line_of row) standing state s.owed s.answer_value s.seats s.debts place other owes) in
-            (ap (λ (w : LineWord). w.request) same, ap (λ (w : LineWord). w.older) same))
-            (s.debts.links place);
-      };
+      answers = answers-kept places row at number state.shown below s.answers;
+      debts = debts-kept (line_of row) (line_of (updated row at number)) state.due state.granter s.owed s.answer_value s.debts
+          (λ place other owes. words other (owed-out places (line_of row) standing state s.owed s.answer_value s.seats s.debts place other owes));
       stages = stages-next needs (line_of row) (line_of (updated row at number)) standing state.count state.count state.line (before ++ after) s.cut []
           s.holder next s.owed s.owed s.answer_value s.answer_value me (record (left_line (standing me)) { stage = stage }) s.stages
           ranged alone (λ gives. let wrong : true ≡ false = sym gives ∙ stays in absurd (cc)) own showing holder holding

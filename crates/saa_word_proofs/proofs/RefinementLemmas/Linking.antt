@@ -14,20 +14,14 @@ use Rattle.saa_word_steps.specs.Steps.{IsRanged}
 use Rattle.saa_word_proofs.specs.Refinement.{joins_line, newest, oldest, IsAhead, is_holder, gives_up, IsLocallyTrue, IsOwn, IsShowing, Work, IsHolding, IsAt, IsMain, IsLine, AreSeats, Invariant}
 use Rattle.saa_word_proofs.specs.Rows.{IsBehind, line_of, updated}
 use Rattle.saa_word_proofs.specs.Registering.{is_slot}
-use Rattle.saa_word_proofs.proofs.RefinementLemmas.Lists.{in-some, behind-frame, behind-rest, newest-append, newest-last, empty-nil}
+use Rattle.saa_word_proofs.proofs.RefinementLemmas.Lists.{in-some, behind-rest, newest-append, newest-last, empty-nil}
 use Rattle.saa_word_proofs.proofs.RefinementLemmas.Frames.{stages-next, newest-stands, oldest-stands, work-behind}
-use Rattle.saa_word_proofs.proofs.RefinementLemmas.Rows.{line-other, row-other, own-any, seats-next}
+use Rattle.saa_word_proofs.proofs.RefinementLemmas.Rows.{line-other, row-other, own-any, seats-next, debts-kept, answers-kept}
 
 -- a place that holds the flag is its holder, and knows what a holder does
 pub flag-held : (needs : Needs) (places : ℕ) (row : ℕ → ℕ) (standing : ℕ → Place) (state : AbstractState) (me : ℕ) (s : Invariant needs places row standing state)
     → is_holder (standing me).stage ≡ true → s.holder ≡ me + 1
 flag-held needs places row standing state me s holds = same_number s.holder (me + 1) (sym (s.stages.one me) ∙ holds)
-
-pub flag-knows : (needs : Needs) (places : ℕ) (row : ℕ → ℕ) (standing : ℕ → Place) (state : AbstractState) (me : ℕ) (s : Invariant needs places row standing state)
-    (stage : Stage) → (standing me).stage ≡ stage → is_holder stage ≡ true → IsHolding needs (line_of row) me state.count state.line s.cut stage
-flag-knows needs places row standing state me s stage at holds =
-    subst (λ (other : Stage). IsHolding needs (line_of row) me state.count state.line s.cut other) at
-    (s.stages.holding me (flag-held needs places row standing state me s (ap is_holder at ∙ holds)))
 
 -- numbers whose test fails are two
 pub apart-by : (one other : ℕ) → one == other ≡ false → one ≡ other → ⊥
@@ -91,17 +85,17 @@ line-room number = (omega arith, omega arith, omega arith)
 
 -- The holder writes the line word of a place in line, and goes on as a holder that knows the line by the new words
 pub relinked : (needs : Needs) (places : ℕ) (row : ℕ → ℕ) (standing : ℕ → Place) (state : AbstractState) (me : ℕ) (s : Invariant needs places row standing state)
-    (next : Stage) (at number : ℕ) (off rest : List (ℕ × ℕ))
+    (next : Stage) (link at number : ℕ) (off rest : List (ℕ × ℕ)) → link ≡ at + 1
     → (places ≤ me → joins_line next ≡ false) → s.holder ≡ me + 1 → 0 < times at state.line
     → IsLine (line_of (updated row (at + 1) number)) state.line off rest
     → IsRanged needs next → IsLocallyTrue needs (standing me).registration (standing me).back next
     → (gives_up (standing me).back next ≡ true → is_in me state.line ≡ false)
     → IsOwn (line_of (updated row (at + 1) number) me) next → IsShowing (s.owed me) (s.answer_value me) next
     → is_holder next ≡ true → IsHolding needs (line_of (updated row (at + 1) number)) me state.count state.line off next
-    → Invariant needs places (updated row (at + 1) number) (updated standing me (record (standing me) { stage = next })) state
-relinked needs places row standing state me s next at number off rest free flag there line ranged alone apart own showing holder holding =
+    → Invariant needs places (updated row link number) (updated standing me (record (standing me) { stage = next })) state
+relinked needs places row standing state me s next link at number off rest is free flag there line ranged alone apart own showing holder holding =
     let seat = in-line places standing state at s.seats there in
-    record {
+    subst (λ (word : ℕ). Invariant needs places (updated row word number) (updated standing me (record (standing me) { stage = next })) state) (sym is) (record {
       holder = s.holder;
       cut = off;
       uncut = rest;
@@ -110,31 +104,16 @@ relinked needs places row standing state me s next at number off rest free flag 
       free = λ nobody. absurd (omega (arith, flag, same_number s.holder 0 nobody));
       main = subst (λ (n : ℕ). IsMain needs n state s.holder) (sym (row-other row (at + 1) number 0 (λ is. omega (arith, is)))) s.main;
       line = line;
-      seats = seats-next places standing state me (record (standing me) { stage = next }) s.seats free refl;
-      answers = record {
-        words = λ place below.
-            row-other row (at + 1) number (places + place + 1) (λ is. omega (arith, is, seat.0)) ∙ s.answers.words place below;
-        small = s.answers.small;
-      };
-      debts = record {
-        due_to = s.debts.due_to;
-        paid_by = s.debts.paid_by;
-        once = s.debts.once;
-        small = s.debts.small;
-        links = λ place.
-            behind-frame (line_of row) (line_of (updated row (at + 1) number)) 0 (s.owed place)
-            (λ other owes.
-            let same : line_of (updated row (at + 1) number) other ≡ line_of row other =
-            line-other row at number other (not-owed seat.3 place other owes) in
-            (ap (λ (w : LineWord). w.request) same, ap (λ (w : LineWord). w.older) same))
-            (s.debts.links place);
-      };
+      seats = seats-next places standing state state me (record (standing me) { stage = next }) s.seats free refl (λ other. refl);
+      answers = answers-kept places row (at + 1) number state.shown (omega (arith, seat.0)) s.answers;
+      debts = debts-kept (line_of row) (line_of (updated row (at + 1) number)) state.due state.granter s.owed s.answer_value s.debts
+          (λ place other owes. line-other row at number other (not-owed seat.3 place other owes));
       stages = stages-next needs (line_of row) (line_of (updated row (at + 1) number)) standing state.count state.count state.line state.line s.cut off
           s.holder s.holder s.owed s.owed s.answer_value s.answer_value me (record (standing me) { stage = next }) s.stages
           ranged alone apart own showing (holder ∙ sym (ap (λ (n : ℕ). n == me + 1) flag ∙ number_same (me + 1))) (λ is. holding)
           (λ other differs out. out)
           (owns seat.1) (λ other differs. refl) (λ other differs. refl) (λ other differs. refl) (λ other differs is. absurd (differs (omega (arith, is, flag))));
-    }
+    })
   where
     not-owed : is_some (state.due at) ≡ false → (place other : ℕ) → 0 < times other (s.owed place) → other ≡ at → ⊥
     not-owed none place other owes is =

@@ -1,5 +1,5 @@
 -- Lines of places as lists: their ends, their members, and what their line words say.
-use Rattle.std.proofs.Common.{◌≡◌, ℕ, ◌+◌, ◌<◌, ◌≤◌, true, false, ◌||◌, List, [], ◌∷◌, ◌++◌, length, take, drop, ◌==◌, refl, sym, ap, subst, ◌∙◌, arith, inl, inr}
+use Rattle.std.proofs.Common.{◌≡◌, ℕ, ◌+◌, ◌<◌, ◌≤◌, Bool, true, false, ◌||◌, List, [], ◌∷◌, ◌++◌, length, take, drop, ◌==◌, refl, sym, ap, subst, ◌∙◌, arith, inl, inr}
 use Rattle.std.proofs.lemmas.Bool.{cases_Bool}
 use Rattle.std.proofs.lemmas.Bool.Decides.{nat_tests}
 use Rattle.saa_core_spec.specs.Object.{one_if, times}
@@ -9,6 +9,10 @@ use Rattle.saa_word_steps.specs.Needs.{Needs, AreNeeds}
 use Rattle.saa_word_steps.specs.AbstractState.{is_empty, is_in, IsFront, takes_of}
 use Rattle.saa_word_proofs.specs.Refinement.{newest, oldest, IsAhead}
 use Rattle.saa_word_proofs.specs.Rows.{IsBehind, updated}
+
+pub neither : (one other : Bool) → one || other ≡ false → (one ≡ false) × (other ≡ false)
+neither true other is = absurd (cc)
+neither false other is = (refl, is)
 
 -- functions that agree everywhere are one
 pub all-same : {A : Type 0} (f g : ℕ → A) → ((n : ℕ) → f n ≡ g n) → f ≡ g
@@ -100,6 +104,13 @@ pub empty-nil : (line : List (ℕ × ℕ)) → is_empty line ≡ true → line �
 empty-nil [] none = refl
 empty-nil (asker ∷ rest) none = absurd (cc)
 
+-- the newest of a front is there exactly where somebody stands in it
+pub front-none : (front : List (ℕ × ℕ)) (top : ℕ) → top ≡ newest 0 front → top == 0 ≡ true → front ≡ []
+front-none front top is none = empty-nil front (sym (newest-empty front) ∙ ap (λ (n : ℕ). n == 0) (sym is) ∙ none)
+
+pub front-some : (front : List (ℕ × ℕ)) (top : ℕ) → top ≡ newest 0 front → top == 0 ≡ false → is_empty front ≡ false
+front-some front top is some = sym (newest-empty front) ∙ ap (λ (n : ℕ). n == 0) (sym is) ∙ some
+
 -- a line in which somebody stands has a newest
 pub record IsSplit (line : List (ℕ × ℕ)) : Type 0 where
   pub before : List (ℕ × ℕ)
@@ -126,6 +137,12 @@ behind-frame old new older [] same h = tt
 behind-frame old new older (asker ∷ rest) same h =
     let here = same asker.0 (omega (arith, one_if-same asker.0)) in
     (here.0 ∙ h.0, here.1 ∙ h.1, behind-frame old new (asker.0 + 1) rest (λ place there. same place (omega (arith, there))) h.2)
+
+-- and so do line words that are the same in all
+pub behind-same : (old new : ℕ → LineWord) (older : ℕ) (line : List (ℕ × ℕ)) → ((place : ℕ) → 0 < times place line → new place ≡ old place)
+    → IsBehind old older line → IsBehind new older line
+behind-same old new older line same =
+    behind-frame old new older line (λ place there. (ap (λ (w : LineWord). w.request) (same place there), ap (λ (w : LineWord). w.older) (same place there)))
 
 pub behind-append : (words : ℕ → LineWord) (older : ℕ) (front behind : List (ℕ × ℕ))
     → IsBehind words older front → IsBehind words (newest older front) behind → IsBehind words older (front ++ behind)

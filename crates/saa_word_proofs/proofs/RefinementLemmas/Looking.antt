@@ -1,27 +1,25 @@
 -- A cancel that set the flag looks for itself from the tail that it saw: each step keeps how words, places and the abstract state stand
 -- together.
-use Rattle.std.proofs.Common.{◌^◌, ◌≡◌, ℕ, ◌+◌, ◌<◌, pred, true, false, List, [], ◌∷◌, ◌++◌, ◌==◌, refl, sym, ap, subst, ◌∙◌, arith, inl, inr, append-nil, append_assoc}
+use Rattle.std.proofs.Common.{◌≡◌, ℕ, ◌+◌, pred, true, false, List, [], ◌∷◌, ◌++◌, ◌==◌, refl, sym, ap, subst, ◌∙◌, arith, inl, inr, append-nil, append_assoc}
 use Rattle.std.proofs.lemmas.Bool.{cases_Bool}
 use Rattle.std.proofs.lemmas.Bool.Decides.{nat_tests}
 use Rattle.saa_core_spec.proofs.Counts.{same_number}
 use Rattle.saa_core_words.specs.declared.word.Word.{Word}
 use Rattle.saa_core_words.specs.declared.line_word.LineWord.{LineWord}
-use Rattle.saa_core_words.specs.Words.{count_bits, line_number, line_word_of}
-use Rattle.saa_word_steps.specs.declared.place.Place.{Place}
+use Rattle.saa_core_words.specs.Words.{line_number, line_word_of}
 use Rattle.saa_word_steps.specs.declared.place.Stage.{Stage}
 use Rattle.saa_word_steps.specs.declared.place.Stage.TheVariants.{Forward, LookLoad, LookStore, Unlink, DropTail}
-use Rattle.saa_word_steps.specs.Needs.{Needs, AreNeeds}
-use Rattle.saa_word_steps.specs.AbstractState.{AbstractState, is_empty, is_in}
+use Rattle.saa_word_steps.specs.AbstractState.{is_empty, is_in}
 use Rattle.saa_word_steps.specs.Steps.{IsRanged}
-use Rattle.saa_word_proofs.specs.Refinement.{newest, oldest, is_holder, gives_up, IsLeaving, IsLocallyTrue, IsOwn, IsShowing, Work, IsHolding, IsAdded, IsBack, IsPassed, IsFound, Invariant}
+use Rattle.saa_word_proofs.specs.Refinement.{newest, oldest, is_holder, gives_up, IsLocallyTrue, IsOwn, IsShowing, Work, IsHolding, IsAdded, IsBack, IsPassed, IsFound, Invariant}
 use Rattle.saa_word_proofs.specs.Rows.{IsBehind, line_of, updated}
-use Rattle.saa_word_proofs.specs.StepRefinement.{StepRefines}
-use Rattle.saa_word_proofs.proofs.RefinementLemmas.Lists.{in-append, split-last, newest-last, newest-empty, empty-nil, behind-rest}
+use Rattle.saa_word_proofs.proofs.RefinementLemmas.Lists.{in-append, split-last, newest-last, empty-nil, behind-rest, front-none, front-some}
 use Rattle.saa_word_proofs.proofs.RefinementLemmas.Frames.{newest-stands, work-front}
-use Rattle.saa_word_proofs.proofs.RefinementLemmas.Rows.{moved, loaded}
-use Rattle.saa_word_proofs.proofs.RefinementLemmas.Linking.{flag-held, flag-knows, in-line, relinked, linked-all}
+use Rattle.saa_word_proofs.proofs.RefinementLemmas.Rows.{IsOwnStep, at-stage, moved, loaded}
+use Rattle.saa_word_proofs.proofs.RefinementLemmas.Linking.{in-line, relinked, linked-all}
 use Rattle.saa_word_proofs.proofs.RefinementLemmas.Flagging.{returning-leaving}
 use Rattle.saa_word_proofs.proofs.RefinementLemmas.Storing.{IsStored, stored}
+use Rattle.saa_word_proofs.proofs.RefinementLemmas.Outcomes.{silent}
 
 -- nobody is the oldest exactly where nobody stands in the line
 oldest-empty : (line : List (ℕ × ℕ)) → oldest line == 0 ≡ is_empty line
@@ -46,19 +44,13 @@ found words me held line seen current newer work back linked own =
     )
 
 -- The line word of the last of the front is loaded: it is the own one, or is to be linked to those behind it
-pub step-LookLoad : (needs : Needs) → AreNeeds needs → needs.top < 2 ^ count_bits → (places : ℕ) (row : ℕ → ℕ) (standing : ℕ → Place) (state : AbstractState) (me : ℕ)
-    → places < 65536 → me < places → (s : Invariant needs places row standing state)
-    → (seen : Word) (current newer : ℕ) (previous : LineWord) → (standing me).stage ≡ LookLoad seen current newer previous
-    → StepRefines needs places row standing state me (LookLoad seen current newer previous)
-step-LookLoad needs lawful wide places row standing state me room here s seen current newer previous at =
-    let knows = flag-knows needs places row standing state me s (LookLoad seen current newer previous) at refl in
+pub step-LookLoad : (seen : Word) (current newer : ℕ) (previous : LineWord) → IsOwnStep (LookLoad seen current newer previous)
+step-LookLoad seen current newer previous needs lawful wide places row standing state me room here s at =
+    let known = at-stage needs places row standing state me s _ at in
+    let knows = known.holding (known.mine refl) in
     let work : Work state.count state.line seen = knows.0 in
     let there = newest-stands work.front current knows.2.1 knows.2.0 in
     let seat = in-line places standing state (pred current) s.seats (work-front state.count state.line seen work (pred current) there.0) in
-    let leaving : IsLeaving (standing me).registration (standing me).back =
-    subst (λ stage. IsLocallyTrue needs (standing me).registration (standing me).back stage) at (s.stages.alone me) in
-    let small : seen.count < 2 ^ count_bits = subst (λ stage. IsRanged needs stage) at (s.stages.ranged me) in
-    let nothing : s.owed me ≡ [] = subst (λ stage. IsShowing (s.owed me) (s.answer_value me) stage) at (s.stages.showing me) in
     let linked : IsBehind (line_of row) 0 state.line = linked-all (line_of row) state.line s.cut s.uncut s.line knows.1 in
     let line : LineWord = line_word_of (row current) in
     let on : (next : Stage) → IsRanged needs next → IsLocallyTrue needs (standing me).registration (standing me).back next
@@ -70,38 +62,30 @@ step-LookLoad needs lawful wide places row standing state me room here s seen cu
     loaded needs places row (updated standing me (record (standing me) { stage = next })) state current
     (moved needs places row standing state me s (record (standing me) { stage = next }) (λ out. absurd (omega (arith, out, here))) refl ranged alone apart own showing
     (holder ∙ ap is_holder (sym at)) (λ is. holding)) in
-    record {
-      events = [];
-      last = state;
-      run = refl;
-      names = refl;
-      inside = omega (arith, there.1, seat.0);
-      stands =
-          elim (cases_Bool (current == me + 1)) [
-            | inl own ↦
-                let mine : current ≡ me + 1 = same_number current (me + 1) own in
-                let is : IsFound me work.front line.older =
-                subst (λ (n : ℕ). IsFound me work.front (line_word_of (row n)).older) (sym mine)
-                (found (line_of row) me state.count state.line seen current newer work knows.2 linked mine) in
-                elim (cases_Bool (newer == 0)) [
-                  | inl last ↦
-                      let none : work.behind ≡ [] =
-                      empty-nil work.behind (sym (oldest-empty work.behind) ∙ ap (λ (n : ℕ). n == 0) (sym knows.2.2) ∙ last) in
-                      let tail : seen.tail ≡ current =
-                      work.tail ∙ ap (λ (l : List (ℕ × ℕ)). newest 0 (work.front ++ l)) none ∙ ap (newest 0) (append-nil work.front) ∙ sym knows.2.0 in
-                      rw (own, last)
-                      (on (DropTail seen line.older) small (leaving, omega (arith, tail, mine, here, room)) (λ gives. absurd (cc)) tt nothing refl
-                      (work, knows.1, is, none))
-                  | inr more ↦
-                      let some : is_empty work.behind ≡ false = sym (oldest-empty work.behind) ∙ ap (λ (n : ℕ). n == 0) (sym knows.2.2) ∙ more in
-                      rw (own, more) (on (Unlink seen newer previous line.older) small leaving (λ gives. absurd (cc)) tt nothing refl
-                      (work, knows.1, is, (knows.2.2, some, knows.2.3), knows.4 some))
-                ]
-            | inr other ↦
-                rw other (on (LookStore seen current newer line) small leaving (λ gives. absurd (cc)) tt nothing refl
-                (work, knows.1, knows.2, knows.3, ap (λ (n : ℕ). line_word_of (row n)) there.1, other))
-          ];
-    }
+    silent refl (omega (arith, there.1, seat.0)) (elim (cases_Bool (current == me + 1)) [
+      | inl own ↦
+          let mine : current ≡ me + 1 = same_number current (me + 1) own in
+          let is : IsFound me work.front line.older =
+          subst (λ (n : ℕ). IsFound me work.front (line_word_of (row n)).older) (sym mine)
+          (found (line_of row) me state.count state.line seen current newer work knows.2 linked mine) in
+          elim (cases_Bool (newer == 0)) [
+            | inl last ↦
+                let none : work.behind ≡ [] =
+                empty-nil work.behind (sym (oldest-empty work.behind) ∙ ap (λ (n : ℕ). n == 0) (sym knows.2.2) ∙ last) in
+                let tail : seen.tail ≡ current =
+                work.tail ∙ ap (λ (l : List (ℕ × ℕ)). newest 0 (work.front ++ l)) none ∙ ap (newest 0) (append-nil work.front) ∙ sym knows.2.0 in
+                rw (own, last)
+                (on (DropTail seen line.older) known.ranged (known.alone, omega (arith, tail, mine, here, room)) (λ gives. absurd (cc)) tt known.showing refl
+                (work, knows.1, is, none))
+            | inr more ↦
+                let some : is_empty work.behind ≡ false = sym (oldest-empty work.behind) ∙ ap (λ (n : ℕ). n == 0) (sym knows.2.2) ∙ more in
+                rw (own, more) (on (Unlink seen newer previous line.older) known.ranged known.alone (λ gives. absurd (cc)) tt known.showing refl
+                (work, knows.1, is, (knows.2.2, some, knows.2.3), knows.4 some))
+          ]
+      | inr other ↦
+          rw other (on (LookStore seen current newer line) known.ranged known.alone (λ gives. absurd (cc)) tt known.showing refl
+          (work, knows.1, knows.2, knows.3, ap (λ (n : ℕ). line_word_of (row n)) there.1, other))
+    ])
 
 -- a place that is in no part of a line is in no line
 passed-all : (me held : ℕ) (line : List (ℕ × ℕ)) (seen : Word) (work : Work held line seen) → work.front ≡ [] → IsPassed me work.behind work.joined
@@ -111,21 +95,15 @@ passed-all me held line seen work none passed =
     ∙ in-append me work.behind work.joined ∙ rw passed.0 passed.1
 
 -- It is written with the link to the one behind it; the look goes on to the one before, or the whole line is passed
-pub step-LookStore : (needs : Needs) → AreNeeds needs → needs.top < 2 ^ count_bits → (places : ℕ) (row : ℕ → ℕ) (standing : ℕ → Place) (state : AbstractState) (me : ℕ)
-    → places < 65536 → me < places → (s : Invariant needs places row standing state)
-    → (seen : Word) (current newer : ℕ) (line : LineWord) → (standing me).stage ≡ LookStore seen current newer line
-    → StepRefines needs places row standing state me (LookStore seen current newer line)
-step-LookStore needs lawful wide places row standing state me room here s seen current newer line at =
-    let knows = flag-knows needs places row standing state me s (LookStore seen current newer line) at refl in
-    let flag = flag-held needs places row standing state me s (ap is_holder at) in
+pub step-LookStore : (seen : Word) (current newer : ℕ) (line : LineWord) → IsOwnStep (LookStore seen current newer line)
+step-LookStore seen current newer line needs lawful wide places row standing state me room here s at =
+    let known = at-stage needs places row standing state me s _ at in
+    let knows = known.holding (known.mine refl) in
+    let flag = known.mine refl in
     let store : IsStored places row state s.cut s.uncut seen current newer line knows.0 =
     stored needs places row standing state s seen current newer line knows.0 room knows.1 knows.2 knows.4 in
     let work : Work state.count state.line seen = store.walk.work in
     let passed : IsPassed me work.behind work.joined = store.walk.passed me knows.5 knows.3 in
-    let leaving : IsLeaving (standing me).registration (standing me).back =
-    subst (λ stage. IsLocallyTrue needs (standing me).registration (standing me).back stage) at (s.stages.alone me) in
-    let small : seen.count < 2 ^ count_bits = subst (λ stage. IsRanged needs stage) at (s.stages.ranged me) in
-    let nothing : s.owed me ≡ [] = subst (λ stage. IsShowing (s.owed me) (s.answer_value me) stage) at (s.stages.showing me) in
     let number : ℕ = line_number (record line { newer = newer }) in
     let on : (next : Stage) → IsRanged needs next → IsLocallyTrue needs (standing me).registration (standing me).back next
     → (gives_up (standing me).back next ≡ true → is_in me state.line ≡ false)
@@ -133,29 +111,18 @@ step-LookStore needs lawful wide places row standing state me room here s seen c
     → IsHolding needs (line_of (updated row (pred current + 1) number)) me state.count state.line s.cut next
     → Invariant needs places (updated row current number) (updated standing me (record (standing me) { stage = next })) state =
     λ next ranged alone apart own showing holder holding.
-    subst (λ (link : ℕ). Invariant needs places (updated row link number) (updated standing me (record (standing me) { stage = next })) state) (sym store.link)
-    (relinked needs places row standing state me s next (pred current) number s.cut s.uncut (λ out. absurd (omega (arith, out, here))) flag store.waits store.linked
-    ranged alone apart own showing holder holding) in
-    record {
-      events = [];
-      last = state;
-      run = refl;
-      names = refl;
-      inside = omega (arith, store.link, store.inside);
-      stands =
-          elim (cases_Bool (line.older == 0)) [
-            | inl none ↦
-                let nobody : work.front ≡ [] =
-                empty-nil work.front (sym (newest-empty work.front) ∙ ap (λ (n : ℕ). n == 0) (sym store.walk.before) ∙ none) in
-                rw none
-                (on (Forward seen current seen.count) (small, small) (returning-leaving (standing me).registration (standing me).back leaving)
-                (λ gives. passed-all me state.count state.line seen work nobody passed) tt nothing refl
-                (work, knows.1, subst (λ l. IsAdded needs seen l seen.count) (sym nobody) (tt, omega arith), store.walk.behind))
-            | inr some ↦
-                let somebody : is_empty work.front ≡ false =
-                sym (newest-empty work.front) ∙ ap (λ (n : ℕ). n == 0) (sym store.walk.before) ∙ some in
-                rw some
-                (on (LookLoad seen line.older current (record line { newer = newer })) small leaving (λ gives. absurd (cc)) tt nothing refl
-                (work, knows.1, (store.walk.before, somebody, store.walk.behind.0, store.walk.behind.2), passed, (λ there. sym store.written)))
-          ];
-    }
+    relinked needs places row standing state me s next current (pred current) number s.cut s.uncut store.link (λ out. absurd (omega (arith, out, here))) flag store.waits
+    store.linked ranged alone apart own showing holder holding in
+    silent refl (omega (arith, store.link, store.inside)) (elim (cases_Bool (line.older == 0)) [
+      | inl none ↦
+          let nobody : work.front ≡ [] = front-none work.front _ store.walk.before none in
+          rw none
+          (on (Forward seen current seen.count) (known.ranged, known.ranged) (returning-leaving (standing me).registration (standing me).back known.alone)
+          (λ gives. passed-all me state.count state.line seen work nobody passed) tt known.showing refl
+          (work, knows.1, subst (λ l. IsAdded needs seen l seen.count) (sym nobody) (tt, omega arith), store.walk.behind))
+      | inr some ↦
+          let somebody : is_empty work.front ≡ false = front-some work.front _ store.walk.before some in
+          rw some
+          (on (LookLoad seen line.older current (record line { newer = newer })) known.ranged known.alone (λ gives. absurd (cc)) tt known.showing refl
+          (work, knows.1, (store.walk.before, somebody, store.walk.behind.0, store.walk.behind.2), passed, (λ there. sym store.written)))
+    ])

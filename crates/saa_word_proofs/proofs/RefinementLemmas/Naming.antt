@@ -303,17 +303,15 @@ taken-under needs call registered place Tries None events h = rw h.1 (poll-answe
 -- a cancel that left the line has named so
 pub left-cancelled : (needs : Needs) (call : WordCall) (registered : Registration) (back : AfterWalk) (events : List Event) → IsLeavingLine call registered back events
     → (call ≡ Cancel) × IsCancelled needs registered (events ++ Cancelled ∷ [])
-left-cancelled needs call registered Tells events leaving = absurd leaving
-left-cancelled needs call registered EndsCall events leaving = absurd leaving
 left-cancelled needs call registered (Takes request) events leaving =
     (leaving.0, rw leaving.2 (subst (λ (r : Registration). IsCancelled needs r (Cancelled ∷ [])) (sym leaving.1) (inl refl)))
+left-cancelled needs call registered _ events leaving = absurd leaving
 
 -- a cancel that isn't found in the line works for the others, and then takes its own answer
 pub left-working : (needs : Needs) (call : WordCall) (registered : Registration) (back : AfterWalk) (events : List Event) → IsLeavingLine call registered back events
     → IsWorking needs call registered back events
-left-working needs call registered Tells events leaving = absurd leaving
-left-working needs call registered EndsCall events leaving = absurd leaving
 left-working needs call registered (Takes request) events leaving = leaving
+left-working needs call registered _ events leaving = absurd leaving
 
 -- a cancel that looks at the main word; where it waits, it stays where it was
 pub flagging-under : (needs : Needs) (call : WordCall) (registered : Registration) (stage : Stage) (place : Place) (seen : Word) (events : List Event)

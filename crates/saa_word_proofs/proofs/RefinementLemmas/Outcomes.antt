@@ -1,18 +1,22 @@
 -- What a place that moved has come to, and what it isn't where it doesn't hold the flag.
-use Rattle.std.proofs.Common.{◌≡◌, ℕ, ◌+◌, true, false, List, ◌==◌, Option, sym, ap, ◌∙◌, arith}
+use Rattle.std.proofs.Common.{◌≡◌, ℕ, ◌+◌, ◌<◌, ◌≤◌, Bool, true, false, List, [], ◌==◌, refl, sym, ap, ◌∙◌, arith, append-nil}
 use Rattle.saa_core_spec.proofs.Counts.{number_same}
 use Rattle.saa_word_steps.specs.declared.place.Place.{Place}
 use Rattle.saa_word_steps.specs.declared.place.Next.{Next}
+use Rattle.saa_word_steps.specs.declared.place.Registration.{Registration}
 use Rattle.saa_word_steps.specs.declared.place.Stage.{Stage}
+use Rattle.saa_word_steps.specs.declared.place.Stage.TheVariants.{Quiet}
 use Rattle.saa_word_steps.specs.Needs.{Needs}
 use Rattle.saa_word_steps.specs.declared.event.Event.{Event}
 use Rattle.saa_word_steps.specs.AbstractState.{AbstractState, IsRun}
-use Rattle.saa_word_steps.specs.Steps.{word_at, written_by, operation_of, next_of}
-use Rattle.saa_word_proofs.specs.Refinement.{is_holder, AreAnswers, Invariant}
-use Rattle.saa_word_proofs.specs.Rows.{updated}
-use Rattle.saa_word_proofs.specs.StepRefinement.{StepRefines, named_at, place_after}
+use Rattle.saa_word_steps.specs.Steps.{IsRanged, word_at, written_by, operation_of, next_of}
+use Rattle.saa_word_proofs.specs.Refinement.{joins_line, is_holder, gives_up, IsLocallyTrue, IsOwn, IsShowing, IsHolding, IsMain, Invariant}
+use Rattle.saa_word_proofs.specs.Rows.{line_of, updated}
+use Rattle.saa_word_proofs.specs.StepRefinement.{StepRefines, named_at, place_after, row_after}
 use Rattle.saa_word_proofs.specs.History.{named, of_place}
-use Rattle.saa_word_proofs.proofs.RefinementLemmas.Rows.{loaded, row-other}
+use Rattle.saa_word_proofs.specs.Registering.{is_slot}
+use Rattle.saa_word_proofs.proofs.RefinementLemmas.Frames.{holding-frame, stages-next}
+use Rattle.saa_word_proofs.proofs.RefinementLemmas.Rows.{loaded, moved, line-main, seats-next, answers-kept}
 
 -- a place that doesn't hold the flag isn't its holder
 pub not-holder : (needs : Needs) (places : ℕ) (row : ℕ → ℕ) (standing : ℕ → Place) (state : AbstractState) (me : ℕ) (s : Invariant needs places row standing state)
@@ -22,6 +26,14 @@ not-holder needs places row standing state me s none is =
     let wrong : true ≡ false = sym test ∙ sym (s.stages.one me) ∙ none in
     absurd (cc)
 
+-- a place that doesn't hold the flag and is in no call any more
+pub rests : (needs : Needs) (places : ℕ) (row : ℕ → ℕ) (standing : ℕ → Place) (state : AbstractState) (me : ℕ) (s : Invariant needs places row standing state)
+    (registration : Registration) → is_slot registration ≡ is_slot (standing me).registration → is_holder (standing me).stage ≡ false → s.owed me ≡ []
+    → Invariant needs places row (updated standing me (record (standing me) { registration = registration; stage = Quiet })) state
+rests needs places row standing state me s registration same none nothing =
+    moved needs places row standing state me s (record (standing me) { registration = registration; stage = Quiet }) (λ out. refl) same
+    tt tt (λ gives. absurd (cc)) tt nothing (sym none) (λ it. absurd (not-holder needs places row standing state me s none it))
+
 -- What a place that moved has come to, where the row is as it was: these events, with what answers name among them
 pub record Outcome (needs : Needs) (places : ℕ) (row : ℕ → ℕ) (standing : ℕ → Place) (state : AbstractState) (me : ℕ) (next : Next) (wanted : List Event) : Type 0 where
   pub events : List Event
@@ -29,6 +41,18 @@ pub record Outcome (needs : Needs) (places : ℕ) (row : ℕ → ℕ) (standing 
   pub run : IsRun needs state (of_place me events) last
   pub names : named events ≡ wanted
   pub stands : Invariant needs places row (updated standing me (place_after (standing me) next)) last
+
+-- what is no event
+pub unseen : {needs : Needs} {places : ℕ} {row : ℕ → ℕ} {standing : ℕ → Place} {state : AbstractState} {me : ℕ} {next : Next}
+    → Invariant needs places row (updated standing me (place_after (standing me) next)) state → Outcome needs places row standing state me next []
+unseen {state = state} stands = record { events = []; last = state; run = refl; names = refl; stands = stands }
+
+pub silent : {needs : Needs} {places : ℕ} {row : ℕ → ℕ} {standing : ℕ → Place} {state : AbstractState} {me : ℕ} {stage : Stage}
+    → [] ≡ named_at needs stage (row (word_at (operation_of needs places me stage))) → word_at (operation_of needs places me stage) < places + places + 1
+    → Invariant needs places (row_after row (operation_of needs places me stage))
+    (updated standing me (place_after (standing me) (next_of needs me (standing me) stage (row (word_at (operation_of needs places me stage)))))) state
+    → StepRefines needs places row standing state me stage
+silent {state = state} names inside stands = record { events = []; last = state; run = refl; names = names; inside = inside; stands = stands }
 
 -- A step that leaves the main word as it was is what its place has come to
 pub only-looked : (needs : Needs) (places : ℕ) (row : ℕ → ℕ) (standing : ℕ → Place) (state : AbstractState) (me : ℕ) (stage : Stage) {next : Next} {wanted : List Event}
@@ -44,9 +68,35 @@ only-looked needs places row standing state me stage {next = next} out main same
   stands = rw (main, same, goes) (loaded needs places row (updated standing me (place_after (standing me) next)) out.last 0 out.stands);
 }
 
--- a row whose main word alone was written has its answer words
-pub answers-main : (places : ℕ) (row : ℕ → ℕ) (number : ℕ) (shown : ℕ → Option ℕ) → AreAnswers places row shown → AreAnswers places (updated row 0 number) shown
-answers-main places row number shown was = record {
-  words = λ place inside. row-other row 0 number (places + place + 1) (λ is. absurd (omega (arith, is))) ∙ was.words place inside;
-  small = was.small;
-}
+-- A write to the main word alone: the count, the marks and who holds the flag may change, and nobody else but this place moves
+pub exchanged : (needs : Needs) (places : ℕ) (row : ℕ → ℕ) (standing : ℕ → Place) (state : AbstractState) (me : ℕ) (s : Invariant needs places row standing state)
+    (number count : ℕ) (unclosed poisoned : Bool) (holder : ℕ) (place : Place)
+    → (places ≤ me → joins_line place.stage ≡ false) → is_slot place.registration ≡ is_slot (standing me).registration
+    → IsRanged needs place.stage → IsLocallyTrue needs place.registration place.back place.stage → gives_up place.back place.stage ≡ false
+    → IsOwn (line_of row me) place.stage → IsShowing (s.owed me) (s.answer_value me) place.stage → is_holder place.stage ≡ (holder == me + 1)
+    → (holder ≡ me + 1 → IsHolding needs (line_of row) me count state.line s.cut place.stage)
+    → ((other : ℕ) → (other ≡ me → ⊥) → (s.holder == other + 1) ≡ (holder == other + 1))
+    → ((other : ℕ) → s.holder ≡ other + 1 → count ≤ state.count) → ((holder == 0) ≡ true → s.holder == 0 ≡ true)
+    → IsMain needs number (record state { count = count; unclosed = unclosed; poisoned = poisoned }) holder
+    → Invariant needs places (updated row 0 number) (updated standing me place) (record state { count = count; unclosed = unclosed; poisoned = poisoned })
+exchanged needs places row standing state me s number count unclosed poisoned holder place free same ranged alone stays own showing one holding ones less
+    freed main =
+    record {
+      holder = holder;
+      cut = s.cut;
+      uncut = s.uncut;
+      owed = s.owed;
+      answer_value = s.answer_value;
+      free = λ none. s.free (freed none);
+      main = main;
+      line = rw (line-main row number) s.line;
+      seats = seats-next places standing state (record state { count = count; unclosed = unclosed; poisoned = poisoned }) me place s.seats free same (λ other. refl);
+      answers = answers-kept places row 0 number state.shown (omega arith) s.answers;
+      debts = rw (line-main row number) s.debts;
+      stages = rw (line-main row number)
+          (stages-next needs (line_of row) (line_of row) standing state.count count state.line state.line s.cut s.cut s.holder holder s.owed s.owed
+          s.answer_value s.answer_value me place s.stages ranged alone (λ gives. let wrong : true ≡ false = sym gives ∙ stays in absurd (cc)) own showing one holding
+          (λ other apart out. out) (λ other apart. s.stages.own other) (λ other apart. refl) (λ other apart. refl) ones
+          (λ other apart it. holding-frame (line_of row) (line_of row) state.count count state.line state.line [] (less other it)
+          (sym (append-nil state.line)) (λ one there. refl) needs other s.cut (standing other).stage refl (s.stages.holding other it)));
+    }

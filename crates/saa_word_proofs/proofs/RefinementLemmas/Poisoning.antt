@@ -5,7 +5,6 @@ use Rattle.std.proofs.lemmas.Bool.Decides.{nat_tests}
 use Rattle.saa_core_spec.specs.Object.{one_if}
 use Rattle.saa_core_spec.proofs.Counts.{number_same, same_number, number_other}
 use Rattle.saa_core_words.specs.declared.word.Word.{Word}
-use Rattle.saa_core_words.specs.declared.line_word.LineWord.{LineWord}
 use Rattle.saa_core_words.specs.Words.{count_bits, word_number, word_of}
 use Rattle.saa_word_steps.specs.declared.place.Place.{Place}
 use Rattle.saa_word_steps.specs.declared.place.AfterShow.TheVariants.{Ends}
@@ -13,28 +12,24 @@ use Rattle.saa_word_steps.specs.declared.place.Next.{Next}
 use Rattle.saa_word_steps.specs.declared.place.Next.TheVariants.{Waits}
 use Rattle.saa_word_steps.specs.declared.place.Stage.{Stage}
 use Rattle.saa_word_steps.specs.declared.place.Stage.TheVariants.{Quiet, ShowLoad, PoisonLoad, PoisonExchange, Clear}
-use Rattle.saa_word_steps.specs.Needs.{Needs, AreNeeds, kept, may_refuse}
+use Rattle.saa_word_steps.specs.Needs.{Needs, kept, may_refuse}
 use Rattle.saa_word_steps.proofs.Giving.{kept-small, kept-twice}
 use Rattle.saa_word_steps.specs.declared.event.Event.TheVariants.{Poisoned, NotPoisoned, Cleared, NotCleared}
 use Rattle.saa_word_steps.specs.AbstractState.{AbstractState, MayRefuse, is_empty, is_in, answered_with, granted_by, held_by}
 use Rattle.saa_word_steps.specs.Steps.{IsRanged, going, poisoning, settled_word}
 use Rattle.saa_word_steps.specs.Readings.{poisoned_word, refusing_word}
-use Rattle.saa_word_proofs.specs.Refinement.{joins_line, newest, is_holder, takes_back, IsLocallyTrue, IsOwn, IsShowing, IsLine, AreDebts, AreStages, Invariant}
+use Rattle.saa_word_proofs.specs.Refinement.{joins_line, newest, is_holder, takes_back, IsLocallyTrue, IsOwn, IsShowing, Invariant}
 use Rattle.saa_word_proofs.specs.Rows.{line_of, main_of, updated}
-use Rattle.saa_word_proofs.specs.StepRefinement.{StepRefines, poisoning_events}
-use Rattle.saa_word_proofs.proofs.RefinementLemmas.Lists.{updated-same}
+use Rattle.saa_word_proofs.specs.StepRefinement.{poisoning_events}
+use Rattle.saa_word_proofs.proofs.RefinementLemmas.Lists.{updated-same, front-none, front-some}
 use Rattle.saa_word_proofs.proofs.RefinementLemmas.Frames.{stages-next}
-use Rattle.saa_word_proofs.proofs.RefinementLemmas.Rows.{moved, loaded, main-found, line-main, seats-next, count-small, tail-small}
+use Rattle.saa_word_proofs.proofs.RefinementLemmas.Rows.{IsStep, at-stage, moved, loaded, main-found, line-main, seats-next, count-small, tail-small, answers-kept}
 use Rattle.saa_word_proofs.proofs.RefinementLemmas.Holders.{main-now, nobody-holds}
-use Rattle.saa_word_proofs.proofs.RefinementLemmas.Outcomes.{Outcome, not-holder, answers-main, only-looked}
+use Rattle.saa_word_proofs.proofs.RefinementLemmas.Outcomes.{rests, exchanged, unseen, Outcome, not-holder, only-looked}
+use Rattle.saa_word_proofs.proofs.RefinementLemmas.Flagging.{not-true}
 use Rattle.saa_word_proofs.proofs.RefinementLemmas.Linking.{linked-all}
 use Rattle.saa_word_proofs.proofs.RefinementLemmas.Ending.{end_stage, ended, ended-ranged, ended-alone, ended-joins, ended-own, ended-showing, ended-holder, returning-any}
-use Rattle.saa_word_proofs.proofs.RefinementLemmas.Granting.{in-waits, in-no, front-none, front-some, held-once, debts-granted, nobody}
-
--- a mark whose negation is false is set
-not-clear : (mark : Bool) → not mark ≡ false → mark ≡ true
-not-clear true is = refl
-not-clear false is = absurd (cc)
+use Rattle.saa_word_proofs.proofs.RefinementLemmas.Granting.{in-waits, in-no, held-once, debts-granted, nobody}
 
 -- a test that is false says both
 neither : (poisoned owned : Bool) → poisoned || not owned ≡ false → (poisoned ≡ false) × (owned ≡ true)
@@ -67,42 +62,28 @@ poisoning-outcome needs places row standing state me s none nothing tells =
             last = state;
             run = (other, refl);
             names = refl;
-            stands = moved needs places row standing state me s (record (standing me) { stage = Quiet }) (λ out. refl) refl
-                tt tt (λ gives. absurd (cc)) tt nothing (sym none) (λ is. absurd (not-holder needs places row standing state me s none is));
+            stands = rests needs places row standing state me s (standing me).registration refl none nothing;
           })
       | inr owned ↦
           let both = neither seen.is_poisoned (may_refuse needs seen.count) owned in
           elim (cases_Bool seen.is_flagged) [
-            | inl flagged ↦ rw (owned, flagged) (record {
-              events = [];
-              last = state;
-              run = refl;
-              names = refl;
-              stands = subst (λ (p : ℕ → Place). Invariant needs places row p state) (sym (updated-same standing me (standing me) refl)) s;
-            })
+            | inl flagged ↦ rw (owned, flagged) (unseen
+                (subst (λ (p : ℕ → Place). Invariant needs places row p state) (sym (updated-same standing me (standing me) refl)) s))
             | inr clear ↦ rw owned
                 (subst (λ (next : Next). Outcome needs places row standing state me next [])
-                (sym (ap (λ (flagged : Bool). if flagged then Waits else going (standing me) (PoisonExchange seen)) clear)) (record {
-                  events = [];
-                  last = state;
-                  run = refl;
-                  names = refl;
-                  stands = moved needs places row standing state me s (record (standing me) { stage = PoisonExchange seen }) (λ out. refl) refl
-                      (count-small (row 0)) (tells, tail-small (row 0), both.1, clear, both.0)
-                      (λ gives. absurd (cc)) tt nothing (sym none) (λ is. absurd (not-holder needs places row standing state me s none is));
-                }))
+                (sym (ap (λ (flagged : Bool). if flagged then Waits else going (standing me) (PoisonExchange seen)) clear)) (unseen
+                (moved needs places row standing state me s (record (standing me) { stage = PoisonExchange seen }) (λ out. refl) refl
+                (count-small (row 0)) (tells, tail-small (row 0), both.1, clear, both.0)
+                (λ gives. absurd (cc)) tt nothing (sym none) (λ is. absurd (not-holder needs places row standing state me s none is)))))
           ]
     ]
 
 -- The poisoner looks at the main word
-pub step-PoisonLoad : (needs : Needs) → AreNeeds needs → needs.top < 2 ^ count_bits → (places : ℕ) (row : ℕ → ℕ) (standing : ℕ → Place) (state : AbstractState) (me : ℕ)
-    → places < 65536 → (s : Invariant needs places row standing state)
-    → (standing me).stage ≡ PoisonLoad → StepRefines needs places row standing state me PoisonLoad
+pub step-PoisonLoad : IsStep PoisonLoad
 step-PoisonLoad needs lawful wide places row standing state me room s at =
-    let alone : IsLocallyTrue needs (standing me).registration (standing me).back PoisonLoad =
-    subst (λ (stage : Stage). IsLocallyTrue needs (standing me).registration (standing me).back stage) at (s.stages.alone me) in
+    let known = at-stage needs places row standing state me s _ at in
     let out = poisoning-outcome needs places row standing state me s (ap is_holder at)
-    (subst (λ (stage : Stage). IsShowing (s.owed me) (s.answer_value me) stage) at (s.stages.showing me)) alone in
+    known.showing known.alone in
     only-looked needs places row standing state me PoisonLoad out refl refl refl refl
 
 -- the object once a lock is poisoned, or a semaphore shut
@@ -138,7 +119,6 @@ poisoned-stands needs wide places row standing state me s stage seen counts neve
     let place : Place = record (standing me) { stage = stage } in
     let zero : s.holder ≡ 0 = same_number s.holder 0 unheld in
     let once = held-once places standing state s.seats in
-    let seats = seats-next places standing state me place s.seats (λ out. never) refl in
     let linked = linked-all (line_of row) state.line s.cut s.uncut s.line (s.free unheld) in
     let debts = debts-granted (line_of row) state s.owed s.answer_value me 2 state.line [] s.debts (omega arith) (sym (append-nil state.line))
     once none linked in
@@ -162,36 +142,28 @@ poisoned-stands needs wide places row standing state me s stage seen counts neve
           keeps refl refl refl (λ poisoned. (kept-twice needs state.count, refl)) (omega (arith, less, s.main.bounded))
           (λ free. s.main.closed unheld) (λ closed. tt);
       line = record { parts = refl; granted = tt; stays = tt; some = λ gone. refl };
-      seats = record {
-        held = λ other. held-poisoned needs state me other (once other) ∙ seats.held other;
-        within = seats.within;
-        beyond = seats.beyond;
-      };
-      answers = answers-main places row number state.shown s.answers;
+      seats = seats-next places standing state (poisoned_after needs state me) me place s.seats (λ out. never) refl
+          (λ other. held-poisoned needs state me other (once other));
+      answers = answers-kept places row 0 number state.shown (omega arith) s.answers;
       debts = rw (line-main row number) debts;
       stages = rw (line-main row number) stages;
     }
 
 -- A poisoner that saw a lock of one owner poisons it, and a place that shuts a semaphore does so, and shows that to all waiters; or decides by the word that it found
-pub step-PoisonExchange : (needs : Needs) → AreNeeds needs → needs.top < 2 ^ count_bits → (places : ℕ) (row : ℕ → ℕ) (standing : ℕ → Place) (state : AbstractState) (me : ℕ)
-    → places < 65536 → (s : Invariant needs places row standing state)
-    → (seen : Word) → (standing me).stage ≡ PoisonExchange seen → StepRefines needs places row standing state me (PoisonExchange seen)
-step-PoisonExchange needs lawful wide places row standing state me room s seen at =
-    let alone : IsLocallyTrue needs (standing me).registration (standing me).back (PoisonExchange seen) =
-    subst (λ (stage : Stage). IsLocallyTrue needs (standing me).registration (standing me).back stage) at (s.stages.alone me) in
-    let ranged : IsRanged needs (PoisonExchange seen) = subst (λ (stage : Stage). IsRanged needs stage) at (s.stages.ranged me) in
+pub step-PoisonExchange : (seen : Word) → IsStep (PoisonExchange seen)
+step-PoisonExchange seen needs lawful wide places row standing state me room s at =
+    let known = at-stage needs places row standing state me s _ at in
     let none : is_holder (standing me).stage ≡ false = ap is_holder at in
-    let nothing : s.owed me ≡ [] = subst (λ (stage : Stage). IsShowing (s.owed me) (s.answer_value me) stage) at (s.stages.showing me) in
     elim (cases_Bool (row 0 == word_number count_bits seen)) [
       | inl same ↦
-          let is : main_of row ≡ seen = main-found (row 0) seen ranged alone.1 same in
+          let is : main_of row ≡ seen = main-found (row 0) seen known.ranged known.alone.1 same in
           let tail : seen.tail ≡ newest 0 state.line = ap (λ (w : Word). w.tail) (sym is) ∙ s.main.tail in
           let unheld : s.holder == 0 ≡ true =
-          not-clear (s.holder == 0) (sym s.main.flag ∙ ap (λ (w : Word). w.is_flagged) is ∙ alone.3) in
-          let calm : state.poisoned ≡ false = sym s.main.poison ∙ ap (λ (w : Word). w.is_poisoned) is ∙ alone.4 in
+          not-true (s.holder == 0) (sym s.main.flag ∙ ap (λ (w : Word). w.is_flagged) is ∙ known.alone.3) in
+          let calm : state.poisoned ≡ false = sym s.main.poison ∙ ap (λ (w : Word). w.is_poisoned) is ∙ known.alone.4 in
           let counts : seen.count ≡ state.count = ap (λ (w : Word). w.count) (sym is) ∙ s.main.count in
-          let owned : may_refuse needs state.count ≡ true = ap (may_refuse needs) (sym counts) ∙ alone.2 in
-          let returning = returning-any (standing me).registration (standing me).back alone.0 in
+          let owned : may_refuse needs state.count ≡ true = ap (may_refuse needs) (sym counts) ∙ known.alone.2 in
+          let returning = returning-any (standing me).registration (standing me).back known.alone.0 in
           record {
             events = Poisoned ∷ [];
             last = poisoned_after needs state me;
@@ -205,18 +177,18 @@ step-PoisonExchange needs lawful wide places row standing state me room s seen a
                       (subst (λ (p : Place). Invariant needs places (updated row 0 (word_number count_bits (refusing_word needs seen))) (updated standing me p)
                       (poisoned_after needs state me))
                       (sym (ended (standing me) (standing me).back))
-                      (poisoned-stands needs wide places row standing state me s (end_stage (standing me).back) seen counts (ended-joins (standing me).back) unheld nothing
+                      (poisoned-stands needs wide places row standing state me s (end_stage (standing me).back) seen counts (ended-joins (standing me).back) unheld known.showing
                       (ended-ranged needs (standing me).back) (ended-alone needs (standing me).registration (standing me).back returning)
                       (ended-own (line_of row me) (standing me).back)
                       (ended-showing state.line 2 (standing me).back (front-none state.line seen.tail tail alone_there)) (ended-holder (standing me).back)))
                   | inr others ↦
                       rw (same, others)
-                      (poisoned-stands needs wide places row standing state me s (ShowLoad seen.tail 2 Ends) seen counts refl unheld nothing
+                      (poisoned-stands needs wide places row standing state me s (ShowLoad seen.tail 2 Ends) seen counts refl unheld known.showing
                       tt returning tt (sym tail, front-some state.line seen.tail tail others, refl) refl)
                 ];
           }
       | inr differs ↦
-          let out = poisoning-outcome needs places row standing state me s none nothing alone.0 in
+          let out = poisoning-outcome needs places row standing state me s none known.showing known.alone.0 in
           only-looked needs places row standing state me (PoisonExchange seen) out refl (rw differs refl) (rw differs refl) (rw differs refl)
     ]
 
@@ -275,39 +247,17 @@ cleared-stands needs places row standing state me s none nothing lock poisoned =
     let barren = s.main.barren poisoned in
     let none_held : state.count ≡ 0 = barren.0 ∙ rw lock refl in
     let unheld : s.holder == 0 ≡ true = nobody-holds needs places row standing state s (ap is_empty barren.1) in
-    let number : ℕ = word_number count_bits (settled_word 0 0) in
-    let place : Place = record (standing me) { stage = Quiet } in
-    let seats = seats-next places standing state me place s.seats (λ out. refl) refl in
-    let stages = stages-next needs (line_of row) (line_of row) standing state.count state.count state.line state.line s.cut s.cut
-    s.holder s.holder s.owed s.owed s.answer_value s.answer_value me place s.stages
-    tt tt (λ gives. absurd (cc)) tt nothing (sym none ∙ s.stages.one me) (λ is. absurd (not-holder needs places row standing state me s none is))
-    (λ other differs out. out) (λ other differs. s.stages.own other) (λ other differs. refl) (λ other differs. refl)
-    (λ other differs. refl) (λ other differs. s.stages.holding other) in
-    record {
-      holder = s.holder;
-      cut = s.cut;
-      uncut = s.uncut;
-      owed = s.owed;
-      answer_value = s.answer_value;
-      free = s.free;
-      main = main-now needs (record state { poisoned = false }) s.holder (settled_word 0 0) (omega arith) (omega arith)
-          (sym none_held) (sym (ap (newest 0) barren.1)) (sym (ap not unheld)) refl (λ now. absurd (cc)) s.main.bounded s.main.closed s.main.settled;
-      line = subst (λ (w : ℕ → LineWord). IsLine w state.line s.cut s.uncut) (sym (line-main row number)) s.line;
-      seats = record { held = seats.held; within = seats.within; beyond = seats.beyond };
-      answers = answers-main places row number state.shown s.answers;
-      debts = subst (λ (w : ℕ → LineWord). AreDebts w state.due state.granter s.owed s.answer_value) (sym (line-main row number)) s.debts;
-      stages = subst (λ (w : ℕ → LineWord). AreStages needs w (updated standing me place) state.count state.line s.cut s.holder s.owed s.answer_value)
-          (sym (line-main row number)) stages;
-    }
+    exchanged needs places row standing state me s (word_number count_bits (settled_word 0 0)) state.count state.unclosed false s.holder
+    (record (standing me) { stage = Quiet }) (λ out. refl) refl tt tt refl tt nothing (sym none ∙ s.stages.one me)
+    (λ is. absurd (not-holder needs places row standing state me s none is)) (λ other differs. refl) (λ other it. omega arith) (λ free. free)
+    (main-now needs (record state { poisoned = false }) s.holder (settled_word 0 0) (omega arith) (omega arith)
+    (sym none_held) (sym (ap (newest 0) barren.1)) (sym (ap not unheld)) refl (λ now. absurd (cc)) s.main.bounded s.main.closed s.main.settled)
 
 -- A call that clears poison does so in one exchange, or finds none
-pub step-Clear : (needs : Needs) → AreNeeds needs → needs.top < 2 ^ count_bits → (places : ℕ) (row : ℕ → ℕ) (standing : ℕ → Place) (state : AbstractState) (me : ℕ)
-    → places < 65536 → (s : Invariant needs places row standing state)
-    → (standing me).stage ≡ Clear → StepRefines needs places row standing state me Clear
+pub step-Clear : IsStep Clear
 step-Clear needs lawful wide places row standing state me room s at =
-    let lock : needs.is_lock ≡ true = subst (λ (stage : Stage). IsLocallyTrue needs (standing me).registration (standing me).back stage) at (s.stages.alone me) in
+    let known = at-stage needs places row standing state me s _ at in
     let none : is_holder (standing me).stage ≡ false = ap is_holder at in
-    let nothing : s.owed me ≡ [] = subst (λ (stage : Stage). IsShowing (s.owed me) (s.answer_value me) stage) at (s.stages.showing me) in
     elim (cases_Bool (row 0 == word_number count_bits poisoned_word)) [
       | inl same ↦
           let is : main_of row ≡ poisoned_word = main-found (row 0) poisoned_word (omega arith) (omega arith) same in
@@ -315,19 +265,18 @@ step-Clear needs lawful wide places row standing state me room s at =
           record {
             events = Cleared ∷ [];
             last = record state { poisoned = false };
-            run = ((poisoned, lock), refl);
+            run = ((poisoned, known.alone), refl);
             names = rw same refl;
             inside = omega arith;
-            stands = rw same (cleared-stands needs places row standing state me s none nothing lock poisoned);
+            stands = rw same (cleared-stands needs places row standing state me s none known.showing known.alone poisoned);
           }
       | inr differs ↦ record {
         events = NotCleared ∷ [];
         last = state;
-        run = (never-poisoned needs places row standing state s lock differs, refl);
+        run = (never-poisoned needs places row standing state s known.alone differs, refl);
         names = rw differs refl;
         inside = omega arith;
         stands = rw differs (loaded needs places row (updated standing me (record (standing me) { stage = Quiet })) state 0
-            (moved needs places row standing state me s (record (standing me) { stage = Quiet }) (λ out. refl) refl
-            tt tt (λ gives. absurd (cc)) tt nothing (sym none) (λ is. absurd (not-holder needs places row standing state me s none is))));
+            (rests needs places row standing state me s (standing me).registration refl none known.showing));
       }
     ]

@@ -1,12 +1,12 @@
 -- The step that writes an answer, and the one that takes an answer.
-use Rattle.std.proofs.Common.{◌^◌, ◌≡◌, ℕ, ◌+◌, ◌%◌, ◌<◌, ◌≤◌, Bool, true, false, not, ◌&&◌, ◌||◌, List, [], ◌∷◌, ◌++◌, ◌==◌, Option, Some, None, is_some, if◌then◌else◌, refl, sym, ap, subst, ◌∙◌, arith, inl, inr, append-nil}
+use Rattle.std.proofs.Common.{◌≡◌, ℕ, ◌+◌, ◌%◌, ◌<◌, Bool, true, false, not, ◌&&◌, ◌||◌, List, [], ◌∷◌, ◌++◌, ◌==◌, Option, Some, None, is_some, if◌then◌else◌, refl, sym, ap, subst, ◌∙◌, arith, inl, inr, append-nil}
 use Rattle.std.proofs.lemmas.Bool.{cases_Bool}
 use Rattle.saa_core_spec.specs.Object.{one_if, times}
 use Rattle.saa_core_spec.specs.Values.{granted_value}
 use Rattle.saa_core_spec.proofs.Counts.{number_same, same_number, number_other, one_if-same, times-append}
 use Rattle.saa_core_words.specs.declared.word.Word.{Word}
 use Rattle.saa_core_words.specs.declared.line_word.LineWord.{LineWord}
-use Rattle.saa_core_words.specs.Words.{count_bits, answer_number, answer_of}
+use Rattle.saa_core_words.specs.Words.{answer_number, answer_of}
 use Rattle.saa_core_words.proofs.Words.{answer-read}
 use Rattle.saa_word_steps.specs.declared.place.Place.{Place}
 use Rattle.saa_word_steps.specs.declared.place.ReleaseAmount.TheVariants.{Requested}
@@ -23,20 +23,20 @@ use Rattle.saa_word_steps.specs.declared.place.Stage.TheVariants.{Quiet, Release
 use Rattle.saa_word_steps.specs.declared.call.Answer.TheVariants.{Unit as Ended}
 use Rattle.saa_word_steps.specs.declared.place.Next.{Next}
 use Rattle.saa_word_steps.specs.declared.place.Next.TheVariants.{Going, Done}
-use Rattle.saa_word_steps.specs.Needs.{Needs, AreNeeds}
+use Rattle.saa_word_steps.specs.Needs.{Needs}
 use Rattle.saa_word_steps.specs.declared.event.Event.TheVariants.{Showed, AnswerTaken, NotReady}
 use Rattle.saa_word_steps.specs.AbstractState.{AbstractState, is_empty, is_in, held_by, with_answer}
 use Rattle.saa_word_steps.specs.Steps.{IsRanged, shown_all, going, taken_answer}
-use Rattle.saa_word_proofs.specs.Refinement.{joins_line, newest, is_holder, takes_back, gives_up, IsReturning, IsLocallyTrue, IsOwn, IsShowing, IsHolding, AreAnswers, Invariant}
+use Rattle.saa_word_proofs.specs.Refinement.{joins_line, newest, is_holder, gives_up, IsLocallyTrue, IsOwn, IsShowing, IsHolding, AreAnswers, Invariant}
 use Rattle.saa_word_proofs.specs.Rows.{line_of, updated}
 use Rattle.saa_word_proofs.specs.Registering.{is_slot}
-use Rattle.saa_word_proofs.specs.StepRefinement.{StepRefines, place_after, taken_events}
-use Rattle.saa_word_proofs.proofs.RefinementLemmas.Lists.{each-updated, updated-same, updated-at, newest-empty, empty-nil, in-some, behind-frame}
+use Rattle.saa_word_proofs.specs.StepRefinement.{place_after, taken_events}
+use Rattle.saa_word_proofs.proofs.RefinementLemmas.Lists.{each-updated, updated-same, updated-at, newest-empty, empty-nil, in-some}
 use Rattle.saa_word_proofs.proofs.RefinementLemmas.Frames.{stages-next}
-use Rattle.saa_word_proofs.proofs.RefinementLemmas.Rows.{moved, row-other, apart-at}
-use Rattle.saa_word_proofs.proofs.RefinementLemmas.Outcomes.{Outcome, not-holder}
+use Rattle.saa_word_proofs.proofs.RefinementLemmas.Rows.{IsOwnStep, IsStep, row-other, IsAtStage, at-stage, seats-by, debts-kept}
+use Rattle.saa_word_proofs.proofs.RefinementLemmas.Outcomes.{rests, unseen, Outcome, not-holder}
 use Rattle.saa_word_proofs.proofs.RefinementLemmas.Ending.{end_stage, ended, ended-ranged, ended-alone, ended-apart, ended-joins, ended-own, ended-showing, ended-holder}
-use Rattle.saa_word_proofs.proofs.RefinementLemmas.Showing.{shown, due-inside, line-answer, line-shown, own-shown, holding-shown, main-shown, after-store, holder-store, ranged-store}
+use Rattle.saa_word_proofs.proofs.RefinementLemmas.Showing.{shown, due-inside, line-answer, line-shown, own-shown, holding-shown, main-shown, store-load}
 
 -- what the place of the last answer does that goes on with the line
 walk-holding : (needs : Needs) (words : ℕ → LineWord) (me held : ℕ) (line cut : List (ℕ × ℕ)) (current next value : ℕ) (seen : Word)
@@ -56,31 +56,23 @@ walk-holding needs words me held line cut current next value seen h =
     )
 
 -- The newest answer that is owed is shown
-pub step-ShowStore : (needs : Needs) → AreNeeds needs → needs.top < 2 ^ count_bits → (places : ℕ) (row : ℕ → ℕ) (standing : ℕ → Place) (state : AbstractState) (me : ℕ)
-    → places < 65536 → (s : Invariant needs places row standing state)
-    → (current next value : ℕ) (afterwards : AfterShow) → (standing me).stage ≡ ShowStore current next value afterwards
-    → StepRefines needs places row standing state me (ShowStore current next value afterwards)
-step-ShowStore needs lawful wide places row standing state me room s current next value afterwards at =
+pub step-ShowStore : (current next value : ℕ) (afterwards : AfterShow) → IsStep (ShowStore current next value afterwards)
+step-ShowStore current next value afterwards needs lawful wide places row standing state me room s at =
+    let known = at-stage needs places row standing state me s _ at in
     let stage : Stage = ShowStore current next value afterwards in
-    let alone : IsReturning (standing me).registration (standing me).back =
-    subst (λ stage. IsLocallyTrue needs (standing me).registration (standing me).back stage) at (s.stages.alone me) in
-    let apart : takes_back (standing me).back ≡ true → is_in me state.line ≡ false = apart-at needs places row standing state me s stage at in
-    let ranged : IsRanged needs stage = subst (λ stage. IsRanged needs stage) at (s.stages.ranged me) in
-    let showing : IsShowing (s.owed me) (s.answer_value me) stage = subst (λ stage. IsShowing (s.owed me) (s.answer_value me) stage) at (s.stages.showing me) in
-    let holding : s.holder ≡ me + 1 → IsHolding needs (line_of row) me state.count state.line s.cut stage =
-    λ it. subst (λ stage. IsHolding needs (line_of row) me state.count state.line s.cut stage) at (s.stages.holding me it) in
-    let before : List (ℕ × ℕ) = showing.0 in
-    let asker : ℕ × ℕ = showing.1 in
+    let before : List (ℕ × ℕ) = known.showing.0 in
+    let asker : ℕ × ℕ = known.showing.1 in
     let mine : is_in asker.0 (s.owed me) ≡ true =
-    in-some asker.0 (s.owed me) (omega (arith, ap (λ (l : List (ℕ × ℕ)). times asker.0 l) showing.2, times-append asker.0 before (asker ∷ []), one_if-same asker.0)) in
+    in-some asker.0 (s.owed me) (omega (arith, ap (λ (l : List (ℕ × ℕ)). times asker.0 l) known.showing.2, times-append asker.0 before (asker ∷ []), one_if-same asker.0)) in
     let due : state.due asker.0 ≡ Some (s.answer_value me) = (s.debts.due_to me asker.0 mine).1 in
     let last : AbstractState = record state { due = with_answer asker.0 None state.due; shown = with_answer asker.0 (state.due asker.0) state.shown } in
     let row_is : updated row (places + current) (answer_number (Some value)) ≡ updated row (places + (asker.0 + 1)) (answer_number (Some (s.answer_value me))) =
-    ap (λ (n : ℕ). updated row (places + n) (answer_number (Some value))) showing.3
-    ∙ ap (λ (n : ℕ). updated row (places + (asker.0 + 1)) (answer_number (Some n))) showing.5 in
-    let empty : next == 0 ≡ is_empty before = ap (λ (n : ℕ). n == 0) showing.4 ∙ newest-empty before in
+    ap (λ (n : ℕ). updated row (places + n) (answer_number (Some value))) known.showing.3
+    ∙ ap (λ (n : ℕ). updated row (places + (asker.0 + 1)) (answer_number (Some n))) known.showing.5 in
+    let empty : next == 0 ≡ is_empty before = ap (λ (n : ℕ). n == 0) known.showing.4 ∙ newest-empty before in
     let nothing : next == 0 ≡ true → before ≡ [] = λ done. empty-nil before (sym empty ∙ done) in
     let place : Place = place_after (standing me) (if next == 0 then shown_all (standing me) afterwards else going (standing me) (ShowLoad next value afterwards)) in
+    let alike = store-load needs (line_of row) me state.count state.line s.cut current next next value afterwards in
     let then_stands : (goes : Stage) → place ≡ record (standing me) { stage = goes } → joins_line goes ≡ false → IsRanged needs goes
     → IsLocallyTrue needs (standing me).registration (standing me).back goes → (gives_up (standing me).back goes ≡ true → is_in me state.line ≡ false)
     → ((word : LineWord) → IsOwn word goes) → IsShowing before (s.answer_value me) goes → is_holder goes ≡ is_holder stage
@@ -89,29 +81,27 @@ step-ShowStore needs lawful wide places row standing state me room s current nex
     λ goes is goes_never goes_ranged goes_alone goes_apart goes_own goes_showing goes_holder goes_holding.
     subst (λ (r : ℕ → ℕ). Invariant needs places r (updated standing me place) last) (sym row_is)
     (subst (λ (p : Place). Invariant needs places (updated row (places + (asker.0 + 1)) (answer_number (Some (s.answer_value me)))) (updated standing me p) last) (sym is)
-    (shown needs places row standing state me s before asker showing.2 goes goes_never goes_ranged goes_alone goes_apart goes_own goes_showing
+    (shown needs places row standing state me s before asker known.showing.2 goes goes_never goes_ranged goes_alone goes_apart goes_own goes_showing
     (goes_holder ∙ ap is_holder (sym at)) goes_holding)) in
     record {
       events = Showed asker.0 ∷ [];
       last = last;
       run = ((ap is_some due, (s.debts.due_to me asker.0 mine).0), refl);
       names = refl;
-      inside = omega (arith, showing.3, due-inside needs places row standing state s me asker.0 mine);
+      inside = omega (arith, known.showing.3, due-inside needs places row standing state s me asker.0 mine);
       stands =
           elim (cases_Bool (next == 0)) [
-            | inl done ↦ at-end needs places row standing state me s current next value afterwards before last done (nothing done) ranged alone apart holding then_stands
+            | inl done ↦ at-end needs places row standing state me s current next value afterwards before last done (nothing done) known then_stands
             | inr more ↦ then_stands (ShowLoad next value afterwards) (rw more refl) refl
-                (ranged-store needs current next next value afterwards ranged) alone apart (λ word. tt)
-                (sym showing.4, sym empty ∙ more, showing.5) (holder-store current next next value afterwards)
-                (λ it. after-store needs (line_of row) me state.count state.line s.cut current next next value afterwards (holding it))
+                (alike.ranged known.ranged) known.alone known.apart (λ word. tt)
+                (sym known.showing.4, sym empty ∙ more, known.showing.5) alike.holder
+                (λ it. alike.holding (known.holding it))
           ];
     }
   where
     at-end : (needs : Needs) (places : ℕ) (row : ℕ → ℕ) (standing : ℕ → Place) (state : AbstractState) (me : ℕ) (s : Invariant needs places row standing state)
         (current next value : ℕ) (afterwards : AfterShow) (before : List (ℕ × ℕ)) (last : AbstractState) → next == 0 ≡ true → before ≡ []
-        → IsRanged needs (ShowStore current next value afterwards) → IsReturning (standing me).registration (standing me).back
-        → (takes_back (standing me).back ≡ true → is_in me state.line ≡ false)
-        → (s.holder ≡ me + 1 → IsHolding needs (line_of row) me state.count state.line s.cut (ShowStore current next value afterwards))
+        → IsAtStage needs places row standing state me s (ShowStore current next value afterwards)
         → ((goes : Stage) → place_after (standing me) (if next == 0 then shown_all (standing me) afterwards else going (standing me) (ShowLoad next value afterwards))
         ≡ record (standing me) { stage = goes } → joins_line goes ≡ false → IsRanged needs goes
         → IsLocallyTrue needs (standing me).registration (standing me).back goes → (gives_up (standing me).back goes ≡ true → is_in me state.line ≡ false)
@@ -121,14 +111,14 @@ step-ShowStore needs lawful wide places row standing state me room s current nex
         (updated standing me (place_after (standing me) (if next == 0 then shown_all (standing me) afterwards else going (standing me) (ShowLoad next value afterwards)))) last)
         → Invariant needs places (updated row (places + current) (answer_number (Some value)))
         (updated standing me (place_after (standing me) (if next == 0 then shown_all (standing me) afterwards else going (standing me) (ShowLoad next value afterwards)))) last
-    at-end needs places row standing state me s current next value Ends before last done nothing ranged alone apart holding goes =
+    at-end needs places row standing state me s current next value Ends before last done nothing known goes =
         let back : AfterWalk = (standing me).back in
-        goes (end_stage back) (rw done (ended (standing me) back)) (ended-joins back) (ended-ranged needs back) (ended-alone needs (standing me).registration back alone)
-        (λ gives. apart (sym (ended-apart back) ∙ gives)) (λ word. ended-own word back) (ended-showing before (s.answer_value me) back nothing) (ended-holder back)
-        (λ it. absurd (holding it))
-    at-end needs places row standing state me s current next value (Again seen) before last done nothing ranged alone apart holding goes =
-        goes (BackLoad seen seen.tail 0) (rw done refl) refl ranged alone apart (λ word. tt) nothing refl
-        (λ it. walk-holding needs (line_of row) me state.count state.line s.cut current next value seen (holding it))
+        goes (end_stage back) (rw done (ended (standing me) back)) (ended-joins back) (ended-ranged needs back) (ended-alone needs (standing me).registration back known.alone)
+        (λ gives. known.apart (sym (ended-apart back) ∙ gives)) (λ word. ended-own word back) (ended-showing before (s.answer_value me) back nothing) (ended-holder back)
+        (λ it. absurd (known.holding it))
+    at-end needs places row standing state me s current next value (Again seen) before last done nothing known goes =
+        goes (BackLoad seen seen.tail 0) (rw done refl) refl known.ranged known.alone known.apart (λ word. tt) nothing refl
+        (λ it. walk-holding needs (line_of row) me state.count state.line s.cut current next value seen (known.holding it))
 
 -- an answer word is read as the answer that it shows
 pub answer-again : (answer : Option ℕ) → ((value : ℕ) → answer ≡ Some value → value < 256) → answer_of (answer_number answer % 65536) ≡ answer
@@ -180,10 +170,6 @@ taken needs places row standing state me value here s slot none is place idle ra
     let some : 0 < me + 1 = omega arith in
     let index : places + (me + 1) ≡ places + me + 1 = omega arith in
     let new : ℕ → LineWord = line_of (updated row (places + (me + 1)) 0) in
-    let fields : (other : ℕ) → other < places → ((new other).request ≡ (line_of row other).request) × ((new other).older ≡ (line_of row other).older) =
-    λ other inside.
-    let same = line-answer row places (me + 1) 0 other inside some in
-    (ap (λ (w : LineWord). w.request) same, ap (λ (w : LineWord). w.older) same) in
     subst (λ (n : ℕ). Invariant needs places (updated row n 0) (updated standing me place) (record state { shown = with_answer me None state.shown })) index (record {
       holder = s.holder;
       cut = s.cut;
@@ -193,22 +179,11 @@ taken needs places row standing state me value here s slot none is place idle ra
       free = s.free;
       main = main-shown needs places row standing state s (me + 1) 0 state.due (with_answer me None state.shown) some;
       line = line-shown needs places row standing state s (me + 1) 0 some;
-      seats = record {
-        held = held-taken needs places row standing state s me value place slot is idle;
-        within = each-updated (λ (n : ℕ) (p : Place). is_slot p.registration ≡ true → n < places) standing me place (λ slot. here)
-            (λ other differs. s.seats.within other);
-        beyond = each-updated (λ (n : ℕ) (p : Place). places ≤ n → joins_line p.stage ≡ false) standing me place (λ out. absurd (omega (arith, out, here)))
-            (λ other differs. s.seats.beyond other);
-      };
+      seats = seats-by places standing state (record state { shown = with_answer me None state.shown }) me place s.seats
+          (held-taken needs places row standing state s me value place slot is idle) (λ slot. here) (λ out. absurd (omega (arith, out, here)));
       answers = answers-taken needs places row standing state s me;
-      debts = record {
-        due_to = s.debts.due_to;
-        paid_by = s.debts.paid_by;
-        once = s.debts.once;
-        small = s.debts.small;
-        links = λ other. behind-frame (line_of row) new 0 (s.owed other)
-            (λ one there. fields one (due-inside needs places row standing state s other one (in-some one (s.owed other) there))) (s.debts.links other);
-      };
+      debts = debts-kept (line_of row) new state.due state.granter s.owed s.answer_value s.debts
+          (λ other one there. line-answer row places (me + 1) 0 one (due-inside needs places row standing state s other one (in-some one (s.owed other) there)) some);
       stages = stages-next needs (line_of row) new standing state.count state.count state.line state.line s.cut s.cut s.holder s.holder s.owed s.owed
           s.answer_value s.answer_value me place s.stages
           ranged alone (λ gives. let wrong : true ≡ false = sym gives ∙ apart in absurd (cc)) (own (new me)) showing (free ∙ sym none ∙ s.stages.one me)
@@ -232,11 +207,10 @@ either P place true one other p q = p
 either P place false one other p q = q
 
 -- who takes its answer is registered in the line
-take-slot : (needs : Needs) (registration : Registration) (back : AfterWalk) (taking : PollMode) → IsLocallyTrue needs registration back (Take taking)
+pub take-slot : (needs : Needs) (registration : Registration) (back : AfterWalk) (taking : PollMode) → IsLocallyTrue needs registration back (Take taking)
     → is_slot registration ≡ true
-take-slot needs registration back Tries alone = alone
-take-slot needs registration back Awaits alone = alone
 take-slot needs registration back (Gives request) alone = ap is_slot alone
+take-slot needs registration back _ alone = alone
 
 -- an answer that isn't there yet leaves the row, and a place that stays as it is leaves the whole
 stays : (needs : Needs) (places : ℕ) (row : ℕ → ℕ) (standing : ℕ → Place) (state : AbstractState) (me at : ℕ) → Invariant needs places row standing state → row at ≡ 0
@@ -250,22 +224,6 @@ takes : (needs : Needs) (places : ℕ) (row : ℕ → ℕ) (standing : ℕ → P
     → me < places → (s : Invariant needs places row standing state) → is_slot (standing me).registration ≡ true → is_holder (standing me).stage ≡ false
     → s.owed me ≡ [] → (taking : PollMode) (answer : Option ℕ) → state.shown me ≡ answer → row (places + me + 1) ≡ answer_number answer
     → Outcome needs places (updated row (places + me + 1) 0) standing state me (taken_answer needs (standing me) taking answer) (taken_events taking answer)
-takes needs places row standing state me here s slot none nothing Tries (Some value) is number = record {
-  events = AnswerTaken value ∷ [];
-  last = record state { shown = with_answer me None state.shown };
-  run = (is, refl);
-  names = refl;
-  stands = taken needs places row standing state me value here s slot none is (record (standing me) { registration = Idle; stage = Quiet })
-      refl tt tt refl (λ word. tt) nothing refl;
-}
-takes needs places row standing state me here s slot none nothing Awaits (Some value) is number = record {
-  events = AnswerTaken value ∷ [];
-  last = record state { shown = with_answer me None state.shown };
-  run = (is, refl);
-  names = refl;
-  stands = taken needs places row standing state me value here s slot none is (record (standing me) { registration = Idle; stage = Quiet })
-      refl tt tt refl (λ word. tt) nothing refl;
-}
 takes needs places row standing state me here s slot none nothing (Gives request) (Some value) is number = record {
   events = AnswerTaken value ∷ [];
   last = record state { shown = with_answer me None state.shown };
@@ -289,39 +247,32 @@ takes needs places row standing state me here s slot none nothing Tries None is 
   );
   names = refl;
   stands =
-      let quiet : Place = record (standing me) { stage = Quiet } in
-      subst (λ (r : ℕ → ℕ). Invariant needs places r (updated standing me quiet) state) (sym (updated-same row (places + me + 1) 0 (sym number)))
-      (moved needs places row standing state me s quiet (λ out. refl) refl tt tt (λ gives. absurd (cc)) tt nothing (sym none)
-      (λ it. absurd (not-holder needs places row standing state me s none it)));
+      subst (λ (r : ℕ → ℕ). Invariant needs places r (updated standing me (record (standing me) { stage = Quiet })) state)
+      (sym (updated-same row (places + me + 1) 0 (sym number)))
+      (rests needs places row standing state me s (standing me).registration refl none nothing);
 }
-takes needs places row standing state me here s slot none nothing Awaits None is number = record {
-  events = [];
-  last = state;
-  run = refl;
+takes needs places row standing state me here s slot none nothing Awaits None is number =
+    unseen (stays needs places row standing state me (places + me + 1) s number)
+takes needs places row standing state me here s slot none nothing (Gives request) None is number =
+    unseen (stays needs places row standing state me (places + me + 1) s number)
+takes needs places row standing state me here s slot none nothing _ (Some value) is number = record {
+  events = AnswerTaken value ∷ [];
+  last = record state { shown = with_answer me None state.shown };
+  run = (is, refl);
   names = refl;
-  stands = stays needs places row standing state me (places + me + 1) s number;
-}
-takes needs places row standing state me here s slot none nothing (Gives request) None is number = record {
-  events = [];
-  last = state;
-  run = refl;
-  names = refl;
-  stands = stays needs places row standing state me (places + me + 1) s number;
+  stands = taken needs places row standing state me value here s slot none is (record (standing me) { registration = Idle; stage = Quiet })
+      refl tt tt refl (λ word. tt) nothing refl;
 }
 
 -- A place takes its answer, or finds none
-pub step-Take : (needs : Needs) → AreNeeds needs → needs.top < 2 ^ count_bits → (places : ℕ) (row : ℕ → ℕ) (standing : ℕ → Place) (state : AbstractState) (me : ℕ)
-    → places < 65536 → me < places → (s : Invariant needs places row standing state)
-    → (taking : PollMode) → (standing me).stage ≡ Take taking → StepRefines needs places row standing state me (Take taking)
-step-Take needs lawful wide places row standing state me room here s taking at =
-    let alone : IsLocallyTrue needs (standing me).registration (standing me).back (Take taking) =
-    subst (λ stage. IsLocallyTrue needs (standing me).registration (standing me).back stage) at (s.stages.alone me) in
-    let slot : is_slot (standing me).registration ≡ true = take-slot needs (standing me).registration (standing me).back taking alone in
-    let nothing : s.owed me ≡ [] = subst (λ stage. IsShowing (s.owed me) (s.answer_value me) stage) at (s.stages.showing me) in
+pub step-Take : (taking : PollMode) → IsOwnStep (Take taking)
+step-Take taking needs lawful wide places row standing state me room here s at =
+    let known = at-stage needs places row standing state me s _ at in
+    let slot : is_slot (standing me).registration ≡ true = take-slot needs (standing me).registration (standing me).back taking known.alone in
     let number : row (places + me + 1) ≡ answer_number (state.shown me) = s.answers.words me here in
     let answer_is : answer_of (row (places + me + 1) % 65536) ≡ state.shown me =
     ap (λ (n : ℕ). answer_of (n % 65536)) number ∙ answer-again (state.shown me) (s.answers.small me) in
-    let out = takes needs places row standing state me here s slot (ap is_holder at) nothing taking (state.shown me) refl number in
+    let out = takes needs places row standing state me here s slot (ap is_holder at) known.showing taking (state.shown me) refl number in
     record {
       events = out.events;
       last = out.last;

@@ -1,5 +1,5 @@
 -- A step that is answered that it waits finds no answer or the flag set, and writes what stood there.
-use Rattle.std.proofs.Common.{◌≡◌, ℕ, ◌+◌, ◌%◌, ◌<◌, Bool, true, false, not, ◌&&◌, ◌||◌, if◌then◌else◌, ◌==◌, Option, Some, None, is_some, refl, sym, ap, subst, ◌∙◌, arith, inl, inr}
+use Rattle.std.proofs.Common.{◌≡◌, ℕ, ◌+◌, ◌%◌, ◌<◌, Bool, true, false, not, ◌&&◌, ◌||◌, if◌then◌else◌, ◌==◌, Option, Some, None, is_some, refl, sym, ap, ◌∙◌, arith, inl, inr}
 use Rattle.std.proofs.lemmas.Bool.{cases_Bool}
 use Rattle.saa_core_spec.specs.Object.{one_if}
 use Rattle.saa_core_spec.specs.Values.{granted_value}
@@ -13,12 +13,11 @@ use Rattle.saa_word_steps.specs.declared.place.AfterShow.{AfterShow}
 use Rattle.saa_word_steps.specs.declared.place.AfterShow.TheVariants.{Ends, Again}
 use Rattle.saa_word_steps.specs.declared.place.ReleaseAmount.{ReleaseAmount}
 use Rattle.saa_word_steps.specs.declared.place.AfterWalk.{AfterWalk}
-use Rattle.saa_word_steps.specs.declared.place.AfterWalk.TheVariants.{Tells, Ends as EndsCall, Takes}
+use Rattle.saa_word_steps.specs.declared.place.AfterWalk.TheVariants.{Takes}
 use Rattle.saa_word_steps.specs.declared.place.PollMode.{PollMode}
 use Rattle.saa_word_steps.specs.declared.place.PollMode.TheVariants.{Tries, Awaits, Gives}
 use Rattle.saa_word_steps.specs.declared.place.Stage.{Stage}
 use Rattle.saa_word_steps.specs.declared.place.Stage.TheVariants.{Quiet, ReadLoad, AcquireLoad, AcquireExchange, Prepare, Join, ReleaseLoad, ReleaseExchange, BackLoad, BackStore, Forward, CutToClose, CutForRetry, Close, Empty, Retry, ShowLoad, ShowStore, Take, FlagLoad, FlagExchange, LookLoad, LookStore, Unlink, DropTail, PoisonLoad, PoisonExchange, Clear}
-use Rattle.saa_word_steps.specs.declared.place.Registration.TheVariants.{Queued}
 use Rattle.saa_word_steps.specs.declared.operation.Operation.TheVariants.{Exchange}
 use Rattle.saa_word_steps.specs.declared.place.Next.{Next}
 use Rattle.saa_word_steps.specs.declared.place.Next.TheVariants.{Waits}
@@ -27,13 +26,13 @@ use Rattle.saa_word_steps.specs.AbstractState.{AbstractState, is_in, held_by}
 use Rattle.saa_word_steps.specs.Steps.{left_from, word_at, operation_of, next_of, finished, granted, decided, gave_nothing, given_to, given, shown_all, dropped, looked_at, closing, taken_answer, flagging, poisoning, flagged_word}
 use Rattle.saa_word_steps.specs.Readings.{refusing_word}
 use Rattle.saa_word_steps.proofs.AbstractRuns.{waits-none}
-use Rattle.saa_word_proofs.specs.Refinement.{IsLocallyTrue, Invariant}
+use Rattle.saa_word_proofs.specs.Refinement.{Invariant}
 use Rattle.saa_word_proofs.specs.Rows.{IsRefusableAndFlagged, main_of}
 use Rattle.saa_word_proofs.specs.Registering.{is_slot}
 use Rattle.saa_word_proofs.specs.StepRefinement.{row_after}
 use Rattle.saa_word_proofs.specs.Blocking.{IsBlockedAt}
 use Rattle.saa_word_proofs.proofs.RefinementLemmas.Lists.{updated-same}
-use Rattle.saa_word_proofs.proofs.RefinementLemmas.Rows.{apart-at}
+use Rattle.saa_word_proofs.proofs.RefinementLemmas.Rows.{at-stage}
 
 -- Which steps go on or are done
 
@@ -52,9 +51,8 @@ either false one other o t = t
 
 -- a call that is done with the line, one that is granted at once, and one that registered
 pub on-finished : (place : Place) (back : AfterWalk) → GoesOn (finished place back)
-on-finished place Tells = refl
-on-finished place EndsCall = refl
 on-finished place (Takes request) = refl
+on-finished place _ = refl
 
 on-granted : (needs : Needs) (place : Place) (ask : Ask) → GoesOn (granted needs place ask)
 on-granted needs place ask = either ask.joins _ _ refl refl
@@ -69,9 +67,8 @@ on-decided needs place ask seen =
 
 -- who gives something back
 on-nothing : (place : Place) (back : AfterWalk) → GoesOn (gave_nothing place back)
-on-nothing place Tells = refl
-on-nothing place EndsCall = refl
 on-nothing place (Takes request) = refl
+on-nothing place _ = refl
 
 on-left : (place : Place) (what : ReleaseAmount) (seen : Word) (left : Option ℕ) → GoesOn (given_to place what seen left)
 on-left place what seen None = on-nothing place place.back
@@ -92,8 +89,7 @@ on-dropped needs place request value = either (value == granted_value && not (ne
 -- an answer that is there is taken
 pub on-some : (needs : Needs) (place : Place) (taking : PollMode) (value : ℕ) → GoesOn (taken_answer needs place taking (Some value))
 on-some needs place (Gives request) value = on-dropped needs place request value
-on-some needs place Awaits value = refl
-on-some needs place Tries value = refl
+on-some needs place _ value = refl
 
 -- a poll that tries goes on, whatever it finds
 on-tried : (needs : Needs) (place : Place) (answer : Option ℕ) → GoesOn (taken_answer needs place Tries answer)
@@ -237,14 +233,11 @@ pub only-stalls-anyone : (needs : Needs) (places : ℕ) (row : ℕ → ℕ) (sta
     → next_of needs me (standing me) stage (row (word_at (operation_of needs places me stage))) ≡ Waits
     → IsBlockedAt needs state me (main_of row) stage × (row_after row (operation_of needs places me stage) ≡ row)
 only-stalls-anyone needs places row standing state me s (Take Awaits) at waits =
-    let slot : is_slot (standing me).registration ≡ true =
-    subst (λ stage. IsLocallyTrue needs (standing me).registration (standing me).back stage) at (s.stages.alone me) in
-    takes-none needs places row standing state me s Awaits slot waits
+    takes-none needs places row standing state me s Awaits (at-stage needs places row standing state me s _ at).alone waits
 only-stalls-anyone needs places row standing state me s (Take (Gives request)) at waits =
-    let slot : (standing me).registration ≡ Queued request =
-    subst (λ stage. IsLocallyTrue needs (standing me).registration (standing me).back stage) at (s.stages.alone me) in
-    let both = takes-none needs places row standing state me s (Gives request) (ap is_slot slot) waits in
-    let out : is_in me state.line ≡ false = apart-at needs places row standing state me s (Take (Gives request)) at refl in
+    let known = at-stage needs places row standing state me s (Take (Gives request)) at in
+    let both = takes-none needs places row standing state me s (Gives request) (ap is_slot known.alone) waits in
+    let out : is_in me state.line ≡ false = known.apart refl in
     (sym (ap (λ (b : Bool). b || is_some (state.due me)) out) ∙ both.0, both.1)
 only-stalls-anyone needs places row standing state me s FlagLoad at waits =
     (flag-stalls (standing me) (main_of row) waits, updated-same row 0 (row 0) refl)

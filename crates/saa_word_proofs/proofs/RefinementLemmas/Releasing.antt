@@ -1,5 +1,5 @@
 -- Steps of a place that gives back.
-use Rattle.std.proofs.Common.{◌^◌, ◌≡◌, ℕ, ◌+◌, ◌<◌, ◌≤◌, Bool, true, false, not, ◌&&◌, ◌||◌, List, [], ◌∷◌, ◌==◌, if◌then◌else◌, Option, Some, None, refl, sym, ap, subst, ◌∙◌, arith, inl, inr, append-nil}
+use Rattle.std.proofs.Common.{◌^◌, ◌≡◌, ℕ, ◌+◌, ◌<◌, ◌≤◌, Bool, true, false, not, ◌&&◌, ◌||◌, List, [], ◌∷◌, ◌==◌, if◌then◌else◌, Option, Some, None, refl, sym, ap, subst, ◌∙◌, arith, inl, inr}
 use Rattle.std.proofs.lemmas.Bool.{cases_Bool}
 use Rattle.saa_core_spec.proofs.Counts.{number_same}
 use Rattle.saa_core_words.specs.declared.word.Word.{Word}
@@ -16,15 +16,15 @@ use Rattle.saa_word_steps.specs.Needs.{Needs, AreNeeds, forgets}
 use Rattle.saa_word_steps.specs.AbstractState.{AbstractState, IsEnabled, after_event, is_empty, count_or, IsSettledAt}
 use Rattle.saa_word_steps.specs.Steps.{IsRanged, left_from, gave_nothing, given_to, released}
 use Rattle.saa_word_steps.proofs.Giving.{calm-loose, kept-shut, left-share, left-shrinks}
-use Rattle.saa_word_proofs.specs.Refinement.{joins_line, newest, is_holder, takes_back, gives_up, IsLocallyTrue, IsOwn, IsShowing, IsHolding, IsLine, AreDebts, AreStages, Invariant}
+use Rattle.saa_word_proofs.specs.Refinement.{joins_line, newest, is_holder, takes_back, gives_up, IsLocallyTrue, IsOwn, IsShowing, IsHolding, Invariant}
 use Rattle.saa_word_proofs.specs.Rows.{line_of, main_of, updated}
-use Rattle.saa_word_proofs.specs.StepRefinement.{StepRefines, gave, gave_not, left_events, place_after}
+use Rattle.saa_word_proofs.specs.StepRefinement.{gave, gave_not, left_events, place_after}
 use Rattle.saa_word_proofs.specs.History.{named}
 use Rattle.saa_word_proofs.proofs.RefinementLemmas.Lists.{newest-empty}
-use Rattle.saa_word_proofs.proofs.RefinementLemmas.Frames.{holding-frame, stages-next}
-use Rattle.saa_word_proofs.proofs.RefinementLemmas.Rows.{moved, main-found, line-main, seats-next, count-small, tail-small}
+use Rattle.saa_word_proofs.proofs.RefinementLemmas.Frames.{whole-work}
+use Rattle.saa_word_proofs.proofs.RefinementLemmas.Rows.{IsStep, at-stage, moved, main-found, count-small, tail-small}
 use Rattle.saa_word_proofs.proofs.RefinementLemmas.Holders.{main-now}
-use Rattle.saa_word_proofs.proofs.RefinementLemmas.Outcomes.{Outcome, not-holder, answers-main, only-looked}
+use Rattle.saa_word_proofs.proofs.RefinementLemmas.Outcomes.{rests, exchanged, unseen, Outcome, not-holder, only-looked}
 use Rattle.saa_word_proofs.proofs.RefinementLemmas.Flagging.{link-some, not-true, apart-holders}
 use Rattle.saa_word_proofs.proofs.RefinementLemmas.Ending.{end_stage, ended, ended-ranged, ended-alone, ended-apart, ended-joins, ended-own, ended-showing, ended-holder, returning-any}
 
@@ -88,8 +88,7 @@ nothing-outcome needs places row standing state me s none nothing what allowed =
   run = (allowed, nothing-after needs state me what);
   names = nothing-named what;
   stands = subst (λ (p : Place). Invariant needs places row (updated standing me p) state) (sym (quiet-nothing (standing me) (standing me).back))
-      (moved needs places row standing state me s (record (standing me) { stage = Quiet }) (λ out. refl) refl
-      tt tt (λ gives. absurd (cc)) tt nothing (sym none) (λ it. absurd (not-holder needs places row standing state me s none it)));
+      (rests needs places row standing state me s (standing me).registration refl none nothing);
 }
 
 -- A release that is decided by the main word as it stands
@@ -106,25 +105,17 @@ given-outcome needs places row standing state me s none nothing ends what true l
 given-outcome needs places row standing state me s none nothing ends what false None mark is =
     nothing-outcome needs places row standing state me s none nothing what
     (nothing-enabled needs state me what (λ calm. ap (λ (n : ℕ). left_from needs n what) (sym s.main.count) ∙ is))
-given-outcome needs places row standing state me s none nothing ends what false (Some left) mark is = record {
-  events = [];
-  last = state;
-  run = refl;
-  names = refl;
-  stands = moved needs places row standing state me s (record (standing me) { stage = ReleaseExchange what (main_of row) }) (λ out. refl) refl
-      (count-small (row 0)) (tail-small (row 0), (left, is), mark, ends) (λ gives. absurd (cc)) tt nothing (sym none)
-      (λ it. absurd (not-holder needs places row standing state me s none it));
-}
+given-outcome needs places row standing state me s none nothing ends what false (Some left) mark is =
+    unseen (moved needs places row standing state me s (record (standing me) { stage = ReleaseExchange what (main_of row) }) (λ out. refl) refl
+    (count-small (row 0)) (tail-small (row 0), (left, is), mark, ends) (λ gives. absurd (cc)) tt nothing (sym none)
+    (λ it. absurd (not-holder needs places row standing state me s none it)))
 
 -- A call that is to give back looks at the main word
-pub step-ReleaseLoad : (needs : Needs) → AreNeeds needs → needs.top < 2 ^ count_bits → (places : ℕ) (row : ℕ → ℕ) (standing : ℕ → Place) (state : AbstractState) (me : ℕ)
-    → places < 65536 → (s : Invariant needs places row standing state)
-    → (what : ReleaseAmount) → (standing me).stage ≡ ReleaseLoad what → StepRefines needs places row standing state me (ReleaseLoad what)
-step-ReleaseLoad needs lawful wide places row standing state me room s what at =
-    let ends : takes_back (standing me).back ≡ false =
-    subst (λ stage. IsLocallyTrue needs (standing me).registration (standing me).back stage) at (s.stages.alone me) in
+pub step-ReleaseLoad : (what : ReleaseAmount) → IsStep (ReleaseLoad what)
+step-ReleaseLoad what needs lawful wide places row standing state me room s at =
+    let known = at-stage needs places row standing state me s _ at in
     let out = given-outcome needs places row standing state me s (ap is_holder at)
-    (subst (λ stage. IsShowing (s.owed me) (s.answer_value me) stage) at (s.stages.showing me)) ends
+    known.showing known.alone
     what (forgets needs (main_of row).is_poisoned) (left_from needs (main_of row).count what) refl refl in
     only-looked needs places row standing state me (ReleaseLoad what) out refl refl refl refl
 
@@ -155,107 +146,68 @@ given-back needs lawful wide places row standing state me s what left seen tail_
     let less : left ≤ seen.count = left-shrinks needs lawful seen.count what left left_is in
     let word : Word = released needs seen what in
     let word_count : word.count ≡ left = rw left_is refl in
-    let number : ℕ = word_number count_bits word in
-    let place : Place = record (standing me) { stage = stage } in
     let after : AbstractState = record state { count = left; unclosed = not (is_empty state.line) || state.unclosed } in
-    record {
-      holder = holder;
-      cut = s.cut;
-      uncut = s.uncut;
-      owed = s.owed;
-      answer_value = s.answer_value;
-      free = λ free. s.free (nobody free).1;
-      main = main-now needs after holder word
-          (omega (arith, word_count, less, count, s.main.bounded, wide)) tail_small word_count tail flag poison
-          (λ poisoned. (kept-shut needs left state.poisoned (ap (forgets needs) (sym poison) ∙ loose) poisoned, (s.main.barren poisoned).1))
-          (omega (arith, less, count, s.main.bounded))
-          (λ free. rw (nobody free).0 (s.main.closed (nobody free).1))
-          (λ closed. subst (λ (l : List (ℕ × ℕ)). IsSettledAt needs left l) (sym (unopened state.line state.unclosed closed)) tt);
-      line = subst (λ (w : ℕ → LineWord). IsLine w state.line s.cut s.uncut) (sym (line-main row number)) s.line;
-      seats =
-          let seats = seats-next places standing state me place s.seats (λ out. never) refl in
-          record { held = seats.held; within = seats.within; beyond = seats.beyond };
-      answers = answers-main places row number state.shown s.answers;
-      debts = subst (λ (w : ℕ → LineWord). AreDebts w state.due state.granter s.owed s.answer_value) (sym (line-main row number)) s.debts;
-      stages = subst (λ (w : ℕ → LineWord). AreStages needs w (updated standing me place) left state.line s.cut holder s.owed s.answer_value)
-          (sym (line-main row number))
-          (stages-next needs (line_of row) (line_of row) standing state.count left state.line state.line s.cut s.cut s.holder holder s.owed s.owed
-          s.answer_value s.answer_value me place s.stages ranged alone
-          (λ gives. let wrong : true ≡ false = sym gives ∙ stays in absurd (cc))
-          (own (line_of row me)) showing one holding
-          (λ other apart out. out) (λ other apart. s.stages.own other) (λ other apart. refl) (λ other apart. refl) ones
-          (λ other apart it. holding-frame needs (line_of row) (line_of row) other state.count left state.line state.line [] s.cut (standing other).stage
-          (omega (arith, less, count)) (sym (append-nil state.line)) refl (λ one there. refl) (s.stages.holding other it)));
-    }
+    exchanged needs places row standing state me s (word_number count_bits word) left after.unclosed state.poisoned holder (record (standing me) { stage = stage })
+    (λ out. never) refl ranged alone stays (own (line_of row me)) showing one holding ones (λ other it. omega (arith, less, count)) (λ free. (nobody free).1)
+    (main-now needs after holder word
+    (omega (arith, word_count, less, count, s.main.bounded, wide)) tail_small word_count tail flag poison
+    (λ poisoned. (kept-shut needs left state.poisoned (ap (forgets needs) (sym poison) ∙ loose) poisoned, (s.main.barren poisoned).1))
+    (omega (arith, less, count, s.main.bounded))
+    (λ free. rw (nobody free).0 (s.main.closed (nobody free).1))
+    (λ closed. subst (λ (l : List (ℕ × ℕ)). IsSettledAt needs left l) (sym (unopened state.line state.unclosed closed)) tt))
 
 -- a mark and a tail that set a flag, or none
 no-flag : (tail_none flagged : Bool) → (not tail_none && not flagged) ≡ false → (flagged || not tail_none) ≡ flagged
-no-flag true true test = refl
 no-flag true false test = refl
-no-flag false true test = refl
 no-flag false false test = absurd (cc)
+no-flag _ true test = refl
 
 sets-flag : (tail_none flagged : Bool) → (not tail_none && not flagged) ≡ true → (tail_none ≡ false) × (flagged ≡ false)
-sets-flag true true test = absurd (cc)
-sets-flag true false test = absurd (cc)
-sets-flag false true test = absurd (cc)
 sets-flag false false test = (refl, refl)
+sets-flag false true test = absurd (cc)
+sets-flag true flagged test = absurd (cc)
 
 no-tail : (tail_none flagged : Bool) → (not tail_none && not flagged) ≡ false → flagged ≡ false → tail_none ≡ true
 no-tail true flagged test clear = refl
-no-tail false true test clear = absurd (cc)
-no-tail false false test clear = absurd (cc)
+no-tail false _ test clear = absurd (cc)
 
 -- A call that gives back lowers the count, and works on the line where there are waiters and nobody works on it
-pub step-ReleaseExchange : (needs : Needs) → AreNeeds needs → needs.top < 2 ^ count_bits → (places : ℕ) (row : ℕ → ℕ) (standing : ℕ → Place) (state : AbstractState) (me : ℕ)
-    → places < 65536 → (s : Invariant needs places row standing state)
-    → (what : ReleaseAmount) (seen : Word) → (standing me).stage ≡ ReleaseExchange what seen
-    → StepRefines needs places row standing state me (ReleaseExchange what seen)
-step-ReleaseExchange needs lawful wide places row standing state me room s what seen at =
+pub step-ReleaseExchange : (what : ReleaseAmount) (seen : Word) → IsStep (ReleaseExchange what seen)
+step-ReleaseExchange what seen needs lawful wide places row standing state me room s at =
+    let known = at-stage needs places row standing state me s _ at in
     let back : AfterWalk = (standing me).back in
-    let alone : IsLocallyTrue needs (standing me).registration back (ReleaseExchange what seen) =
-    subst (λ stage. IsLocallyTrue needs (standing me).registration back stage) at (s.stages.alone me) in
-    let returning = returning-any (standing me).registration back alone.3 in
-    let ranged : IsRanged needs (ReleaseExchange what seen) = subst (λ stage. IsRanged needs stage) at (s.stages.ranged me) in
+    let returning = returning-any (standing me).registration back known.alone.3 in
     let none : is_holder (standing me).stage ≡ false = ap is_holder at in
-    let nothing : s.owed me ≡ [] = subst (λ stage. IsShowing (s.owed me) (s.answer_value me) stage) at (s.stages.showing me) in
-    let left : ℕ = alone.1.0 in
+    let left : ℕ = known.alone.1.0 in
     elim (cases_Bool (row 0 == word_number count_bits seen)) [
       | inl same ↦
-          let is : main_of row ≡ seen = main-found (row 0) seen ranged alone.0 same in
+          let is : main_of row ≡ seen = main-found (row 0) seen known.ranged known.alone.0 same in
           let tail : seen.tail ≡ newest 0 state.line = ap (λ (w : Word). w.tail) (sym is) ∙ s.main.tail in
           let empty : seen.tail == 0 ≡ is_empty state.line = ap (λ (n : ℕ). n == 0) tail ∙ newest-empty state.line in
           let flagged : seen.is_flagged ≡ not (s.holder == 0) = ap (λ (w : Word). w.is_flagged) (sym is) ∙ s.main.flag in
-          let calm : forgets needs state.poisoned ≡ false = ap (forgets needs) (sym s.main.poison ∙ ap (λ (w : Word). w.is_poisoned) is) ∙ alone.2 in
+          let calm : forgets needs state.poisoned ≡ false = ap (forgets needs) (sym s.main.poison ∙ ap (λ (w : Word). w.is_poisoned) is) ∙ known.alone.2 in
           let left_now : left_from needs state.count what ≡ Some left =
-          ap (λ (n : ℕ). left_from needs n what) (sym s.main.count ∙ ap (λ (w : Word). w.count) is) ∙ alone.1.1 in
+          ap (λ (n : ℕ). left_from needs n what) (sym s.main.count ∙ ap (λ (w : Word). w.count) is) ∙ known.alone.1.1 in
           let word : Word = released needs seen what in
-          let word_count : word.count ≡ left = rw alone.1.1 refl in
+          let word_count : word.count ≡ left = rw known.alone.1.1 refl in
           let after : AbstractState = record state { count = left; unclosed = not (is_empty state.line) || state.unclosed } in
           elim (cases_Bool (not (seen.tail == 0) && not seen.is_flagged)) [
             | inl takes ↦
                 let both = sets-flag (seen.tail == 0) seen.is_flagged takes in
                 let nobody : s.holder == 0 ≡ true = not-true (s.holder == 0) (sym flagged ∙ both.1) in
                 let some : is_empty state.line ≡ false = sym empty ∙ both.0 in
-                let less : left ≤ seen.count = left-shrinks needs lawful seen.count what left alone.1.1 in
+                let less : left ≤ seen.count = left-shrinks needs lawful seen.count what left known.alone.1.1 in
                 record {
                   events = gave what ∷ [];
                   last = after;
                   run = (gave-enabled needs state me what left calm left_now, gave-after needs state me what left left_now);
                   names = rw same (gave-named what);
                   inside = omega arith;
-                  stands = rw (same, takes) (given-back needs lawful wide places row standing state me s what left seen alone.0 alone.2 is alone.1.1
-                      (BackLoad word word.tail 0) (me + 1) refl (omega (arith, word_count, less, ranged)) returning alone.3 (λ word. tt) nothing
+                  stands = rw (same, takes) (given-back needs lawful wide places row standing state me s what left seen known.alone.0 known.alone.2 is known.alone.1.1
+                      (BackLoad word word.tail 0) (me + 1) refl (omega (arith, word_count, less, known.ranged)) returning known.alone.3 (λ word. tt) known.showing
                       (sym (number_same (me + 1)))
                       (λ it. (
-                        record {
-                          front = state.line;
-                          behind = [];
-                          joined = [];
-                          parts = sym (append-nil state.line);
-                          tail = tail ∙ ap (newest 0) (sym (append-nil state.line));
-                          count = omega (arith, word_count);
-                        },
+                        whole-work left state.line word tail (omega (arith, word_count)),
                         s.free nobody,
                         (tail, some, refl, tt),
                       ))
@@ -271,9 +223,9 @@ step-ReleaseExchange needs lawful wide places row standing state me room s what 
                   names = rw same (gave-named what);
                   inside = omega arith;
                   stands = rw (same, ends, ended (standing me) back)
-                      (given-back needs lawful wide places row standing state me s what left seen alone.0 alone.2 is alone.1.1
+                      (given-back needs lawful wide places row standing state me s what left seen known.alone.0 known.alone.2 is known.alone.1.1
                       (end_stage back) s.holder (ended-joins back) (ended-ranged needs back) (ended-alone needs (standing me).registration back returning)
-                      (ended-apart back ∙ alone.3) (λ word. ended-own word back) (ended-showing (s.owed me) (s.answer_value me) back nothing)
+                      (ended-apart back ∙ known.alone.3) (λ word. ended-own word back) (ended-showing (s.owed me) (s.answer_value me) back known.showing)
                       (ended-holder back ∙ sym none ∙ s.stages.one me)
                       (λ it. absurd (not-holder needs places row standing state me s none it)) (λ other apart. refl)
                       (no-flag (seen.tail == 0) seen.is_flagged ends ∙ flagged)
@@ -281,7 +233,7 @@ step-ReleaseExchange needs lawful wide places row standing state me room s what 
                 }
           ]
       | inr differs ↦
-          let out = given-outcome needs places row standing state me s none nothing alone.3
+          let out = given-outcome needs places row standing state me s none known.showing known.alone.3
           what (forgets needs (main_of row).is_poisoned) (left_from needs (main_of row).count what) refl refl in
           only-looked needs places row standing state me (ReleaseExchange what seen) out refl (rw differs refl) (rw differs refl) (rw differs refl)
     ]

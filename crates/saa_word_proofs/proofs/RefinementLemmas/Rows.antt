@@ -1,9 +1,9 @@
 -- What a step writes into a row, and a step that writes nothing.
-use Rattle.std.proofs.Common.{◌≡◌, ℕ, ◌+◌, ◌<◌, ◌≤◌, Bool, true, false, ◌==◌, refl, sym, ap, subst, ◌∙◌, arith, inl, inr, ◌^◌}
+use Rattle.std.proofs.Common.{◌≡◌, ℕ, ◌+◌, ◌<◌, ◌≤◌, Bool, true, false, List, Option, ◌==◌, refl, sym, ap, subst, ◌∙◌, arith, inl, inr, ◌^◌}
 use Rattle.std.proofs.lemmas.Bool.{cases_Bool}
 use Rattle.std.proofs.lemmas.Bool.Decides.{nat_tests}
-use Rattle.saa_core_spec.specs.Object.{one_if}
-use Rattle.saa_core_spec.proofs.Counts.{same_number}
+use Rattle.saa_core_spec.specs.Object.{one_if, times}
+use Rattle.saa_core_spec.proofs.Counts.{same_number, times-append}
 use Rattle.saa_core_words.specs.declared.word.Word.{Word}
 use Rattle.saa_core_words.specs.declared.line_word.LineWord.{LineWord}
 use Rattle.saa_core_words.specs.Words.{count_bits, word_number, word_of, line_word_of}
@@ -12,14 +12,15 @@ use Rattle.saa_word_steps.specs.declared.place.Place.{Place}
 use Rattle.saa_word_steps.specs.declared.place.Registration.{Registration}
 use Rattle.saa_word_steps.specs.declared.place.AfterWalk.{AfterWalk}
 use Rattle.saa_word_steps.specs.declared.place.Stage.{Stage}
-use Rattle.saa_word_steps.specs.declared.place.Stage.TheVariants.{Quiet, ReadLoad, AcquireLoad, AcquireExchange, Prepare, Join, ReleaseLoad, ReleaseExchange, BackLoad, BackStore, Forward, CutToClose, CutForRetry, Close, Empty, Retry, ShowLoad, ShowStore, Take, FlagLoad, FlagExchange, LookLoad, LookStore, Unlink, DropTail, PoisonLoad, PoisonExchange, Clear}
-use Rattle.saa_word_steps.specs.Needs.{Needs}
+use Rattle.saa_word_steps.specs.declared.place.Stage.TheVariants.{Join}
+use Rattle.saa_word_steps.specs.Needs.{Needs, AreNeeds}
 use Rattle.saa_word_steps.specs.AbstractState.{AbstractState, is_in, held_by}
 use Rattle.saa_word_steps.specs.Steps.{IsRanged, IsSmall}
-use Rattle.saa_word_proofs.specs.Refinement.{joins_line, is_holder, gives_up, IsLocallyTrue, IsOwn, IsShowing, IsHolding, AreSeats, Invariant}
+use Rattle.saa_word_proofs.specs.Refinement.{joins_line, is_holder, gives_up, IsLocallyTrue, IsOwn, IsShowing, IsHolding, AreSeats, IsLine, AreDebts, AreAnswers, Invariant}
 use Rattle.saa_word_proofs.specs.Rows.{line_of, updated}
 use Rattle.saa_word_proofs.specs.Registering.{is_slot}
-use Rattle.saa_word_proofs.proofs.RefinementLemmas.Lists.{each-updated, all-same, updated-same, updated-at, updated-other}
+use Rattle.saa_word_proofs.specs.StepRefinement.{StepRefines}
+use Rattle.saa_word_proofs.proofs.RefinementLemmas.Lists.{behind-same, each-updated, all-same, updated-same, updated-at, updated-other}
 use Rattle.saa_word_proofs.proofs.RefinementLemmas.Frames.{stages-next}
 
 -- A main word that is found as it was seen is what was seen
@@ -74,49 +75,94 @@ row-other row at number other apart =
 -- a place that is registered in the line isn't about to join
 pub own-any : (needs : Needs) (registration : Registration) (back : AfterWalk) (stage : Stage) (word : LineWord)
     → IsLocallyTrue needs registration back stage → is_slot registration ≡ true → IsOwn word stage
-own-any needs registration back Quiet word alone slot = tt
-own-any needs registration back (ReadLoad reading) word alone slot = tt
-own-any needs registration back (AcquireLoad ask) word alone slot = tt
-own-any needs registration back (AcquireExchange ask seen) word alone slot = tt
-own-any needs registration back (Prepare request seen) word alone slot = tt
 own-any needs registration back (Join request seen) word alone slot = let wrong : true ≡ false = sym slot ∙ alone.1 in absurd (cc)
-own-any needs registration back (ReleaseLoad given) word alone slot = tt
-own-any needs registration back (ReleaseExchange given seen) word alone slot = tt
-own-any needs registration back (BackLoad seen current newer) word alone slot = tt
-own-any needs registration back (BackStore seen current newer line) word alone slot = tt
-own-any needs registration back (Forward seen current count) word alone slot = tt
-own-any needs registration back (CutToClose seen current count line) word alone slot = tt
-own-any needs registration back (CutForRetry seen current count line) word alone slot = tt
-own-any needs registration back (Close seen count top) word alone slot = tt
-own-any needs registration back (Empty seen current count line) word alone slot = tt
-own-any needs registration back (Retry seen count top) word alone slot = tt
-own-any needs registration back (ShowLoad current value afterwards) word alone slot = tt
-own-any needs registration back (ShowStore current next value afterwards) word alone slot = tt
-own-any needs registration back (Take taking) word alone slot = tt
-own-any needs registration back FlagLoad word alone slot = tt
-own-any needs registration back (FlagExchange seen) word alone slot = tt
-own-any needs registration back (LookLoad seen current newer previous) word alone slot = tt
-own-any needs registration back (LookStore seen current newer line) word alone slot = tt
-own-any needs registration back (Unlink seen newer line older) word alone slot = tt
-own-any needs registration back (DropTail seen older) word alone slot = tt
-own-any needs registration back PoisonLoad word alone slot = tt
-own-any needs registration back (PoisonExchange seen) word alone slot = tt
-own-any needs registration back Clear word alone slot = tt
+own-any needs registration back _ word alone slot = tt
 
--- a place that is registered as it was leaves the seats as they are
-pub seats-next : (places : ℕ) (standing : ℕ → Place) (state : AbstractState) (me : ℕ) (place : Place) → AreSeats places standing state
-    → (places ≤ me → joins_line place.stage ≡ false) → is_slot place.registration ≡ is_slot (standing me).registration → AreSeats places (updated standing me place) state
-seats-next places standing state me place was free same = record {
-  held = each-updated (λ (n : ℕ) (p : Place). held_by n state ≡ one_if (is_slot p.registration)) standing me place
-      (was.held me ∙ ap one_if (sym same)) (λ other apart. was.held other);
-  within = each-updated (λ (n : ℕ) (p : Place). is_slot p.registration ≡ true → n < places) standing me place (λ slot. was.within me (sym same ∙ slot)) (λ other apart. was.within other);
+-- the seats where one place moved, by what is held then
+pub seats-by : (places : ℕ) (standing : ℕ → Place) (state last : AbstractState) (me : ℕ) (place : Place) → AreSeats places standing state
+    → ((other : ℕ) → held_by other last ≡ one_if (is_slot (updated standing me place other).registration))
+    → (is_slot place.registration ≡ true → me < places) → (places ≤ me → joins_line place.stage ≡ false) → AreSeats places (updated standing me place) last
+seats-by places standing state last me place was held here free = record {
+  held = held;
+  within = each-updated (λ (n : ℕ) (p : Place). is_slot p.registration ≡ true → n < places) standing me place here (λ other apart. was.within other);
   beyond = each-updated (λ (n : ℕ) (p : Place). places ≤ n → joins_line p.stage ≡ false) standing me place free (λ other apart. was.beyond other);
 }
 
--- who takes its own answer next stands in no line
-pub apart-at : (needs : Needs) (places : ℕ) (row : ℕ → ℕ) (standing : ℕ → Place) (state : AbstractState) (me : ℕ) → Invariant needs places row standing state
-    → (stage : Stage) → (standing me).stage ≡ stage → gives_up (standing me).back stage ≡ true → is_in me state.line ≡ false
-apart-at needs places row standing state me s stage at gives = s.stages.apart me (ap (gives_up (standing me).back) at ∙ gives)
+-- a place that is registered as it was leaves the seats as they are
+pub seats-next : (places : ℕ) (standing : ℕ → Place) (state last : AbstractState) (me : ℕ) (place : Place) → AreSeats places standing state
+    → (places ≤ me → joins_line place.stage ≡ false) → is_slot place.registration ≡ is_slot (standing me).registration
+    → ((other : ℕ) → held_by other last ≡ held_by other state) → AreSeats places (updated standing me place) last
+seats-next places standing state last me place was free same held =
+    seats-by places standing state last me place was (each-updated (λ (n : ℕ) (p : Place). held_by n last ≡ one_if (is_slot p.registration)) standing me place
+    (held me ∙ was.held me ∙ ap one_if (sym same)) (λ other apart. held other ∙ was.held other)) (λ slot. was.within me (sym same ∙ slot)) free
+
+-- A row that is written at a word that isn't the main one, where the line words of those in line, or of those who are owed an answer, are as they were
+pub line-kept : (words new : ℕ → LineWord) (line cut uncut : List (ℕ × ℕ)) → IsLine words line cut uncut
+    → ((place : ℕ) → 0 < times place line → new place ≡ words place) → IsLine new line cut uncut
+line-kept words new line cut uncut was same =
+    let both : (place : ℕ) → times place line ≡ times place cut + times place uncut =
+    λ place. ap (λ (l : List (ℕ × ℕ)). times place l) was.parts ∙ times-append place cut uncut in
+    record {
+      parts = was.parts;
+      granted = behind-same words new 0 cut (λ place there. same place (omega (arith, there, both place))) was.granted;
+      stays = behind-same words new 0 uncut (λ place there. same place (omega (arith, there, both place))) was.stays;
+      some = was.some;
+    }
+
+pub debts-kept : (words new : ℕ → LineWord) (due : ℕ → Option ℕ) (granter : ℕ → ℕ) (owed : ℕ → List (ℕ × ℕ)) (answer_value : ℕ → ℕ)
+    → AreDebts words due granter owed answer_value → ((place other : ℕ) → 0 < times other (owed place) → new other ≡ words other)
+    → AreDebts new due granter owed answer_value
+debts-kept words new due granter owed answer_value was same = record {
+  due_to = was.due_to;
+  paid_by = was.paid_by;
+  once = was.once;
+  small = was.small;
+  links = λ place. behind-same words new 0 (owed place) (same place) (was.links place);
+}
+
+-- and the answer words, where none of them is written
+pub answers-kept : (places : ℕ) (row : ℕ → ℕ) (at number : ℕ) (shown : ℕ → Option ℕ) → at ≤ places → AreAnswers places row shown
+    → AreAnswers places (updated row at number) shown
+answers-kept places row at number shown below was = record {
+  words = λ place inside. row-other row at number (places + place + 1) (λ is. omega (arith, is, below)) ∙ was.words place inside;
+  small = was.small;
+}
+
+-- The step of a place or of a visitor at a stage, and that of a place alone
+abbrev pub IsStep : Stage → Type 0
+IsStep stage =
+    (needs : Needs) → AreNeeds needs → needs.top < 2 ^ count_bits → (places : ℕ) (row : ℕ → ℕ) (standing : ℕ → Place) (state : AbstractState) (me : ℕ)
+    → places < 65536 → Invariant needs places row standing state → (standing me).stage ≡ stage → StepRefines needs places row standing state me stage
+
+abbrev pub IsOwnStep : Stage → Type 0
+IsOwnStep stage =
+    (needs : Needs) → AreNeeds needs → needs.top < 2 ^ count_bits → (places : ℕ) (row : ℕ → ℕ) (standing : ℕ → Place) (state : AbstractState) (me : ℕ)
+    → places < 65536 → me < places → Invariant needs places row standing state → (standing me).stage ≡ stage
+    → StepRefines needs places row standing state me stage
+
+-- What is so of a place at a stage
+pub record IsAtStage (needs : Needs) (places : ℕ) (row : ℕ → ℕ) (standing : ℕ → Place) (state : AbstractState) (me : ℕ) (s : Invariant needs places row standing state)
+    (stage : Stage) : Type 0 where
+  pub ranged : IsRanged needs stage
+  pub alone : IsLocallyTrue needs (standing me).registration (standing me).back stage
+  pub apart : gives_up (standing me).back stage ≡ true → is_in me state.line ≡ false
+  pub own : IsOwn (line_of row me) stage
+  pub showing : IsShowing (s.owed me) (s.answer_value me) stage
+  pub holding : s.holder ≡ me + 1 → IsHolding needs (line_of row) me state.count state.line s.cut stage
+  pub mine : is_holder stage ≡ true → s.holder ≡ me + 1
+
+pub at-stage : (needs : Needs) (places : ℕ) (row : ℕ → ℕ) (standing : ℕ → Place) (state : AbstractState) (me : ℕ) (s : Invariant needs places row standing state)
+    (stage : Stage) → (standing me).stage ≡ stage → IsAtStage needs places row standing state me s stage
+at-stage needs places row standing state me s stage at =
+    subst (λ (stage : Stage). IsAtStage needs places row standing state me s stage) at (record {
+      ranged = s.stages.ranged me;
+      alone = s.stages.alone me;
+      apart = s.stages.apart me;
+      own = s.stages.own me;
+      showing = s.stages.showing me;
+      holding = s.stages.holding me;
+      mine = λ holds. same_number s.holder (me + 1) (sym (s.stages.one me) ∙ holds);
+    })
 
 -- A step that leaves words and object as they are
 pub moved : (needs : Needs) (places : ℕ) (row : ℕ → ℕ) (standing : ℕ → Place) (state : AbstractState) (me : ℕ) (s : Invariant needs places row standing state) (place : Place)
@@ -136,7 +182,7 @@ moved needs places row standing state me s place free same ranged alone apart ow
   free = s.free;
   main = s.main;
   line = s.line;
-  seats = seats-next places standing state me place s.seats free same;
+  seats = seats-next places standing state state me place s.seats free same (λ other. refl);
   answers = s.answers;
   debts = s.debts;
   stages = stages-next needs (line_of row) (line_of row) standing state.count state.count state.line state.line s.cut s.cut s.holder s.holder s.owed s.owed

@@ -1,8 +1,9 @@
 -- What a place has seen begins the history, and has all its events.
-use Rattle.std.proofs.Common.{◌≡◌, ℕ, Bool, true, false, ◌||◌, ◌==◌, List, [], ◌∷◌, refl, sym, ap, inl, inr}
+use Rattle.std.proofs.Common.{◌≡◌, ℕ, false, ◌==◌, List, [], ◌∷◌, refl, sym, ap, inl, inr}
 use Rattle.std.proofs.lemmas.Bool.{cases_Bool}
 use Rattle.saa_word_steps.specs.declared.event.Event.{Event}
 use Rattle.saa_word_proofs.specs.History.{BeginsWith, has_part, part_of, seen_by}
+use Rattle.saa_word_proofs.proofs.RefinementLemmas.Lists.{neither}
 
 pub begins-seen : (place : ℕ) (history : List (ℕ × Event)) → BeginsWith history (seen_by place history)
 begins-seen place [] = ([], refl)
@@ -13,10 +14,6 @@ begins-seen place (entry ∷ rest) =
     ]
 
 -- a place with no event has no part
-neither : (one other : Bool) → one || other ≡ false → (one ≡ false) × (other ≡ false)
-neither true other is = absurd (cc)
-neither false other is = (refl, is)
-
 no-part : (place : ℕ) (history : List (ℕ × Event)) → has_part place history ≡ false → part_of place history ≡ []
 no-part place [] none = refl
 no-part place (entry ∷ rest) none =

@@ -1,27 +1,27 @@
 -- Steps of a place that shows answers, and of one that takes its own.
-use Rattle.std.proofs.Common.{◌^◌, ◌≡◌, ℕ, ◌+◌, ◌<◌, ◌≤◌, Bool, true, false, ◌||◌, List, [], ◌∷◌, ◌++◌, ◌==◌, Option, Some, None, is_some, nat_lt, refl, sym, ap, subst, ◌∙◌, arith, inl, inr, append-nil}
+use Rattle.std.proofs.Common.{◌≡◌, ℕ, ◌+◌, ◌<◌, ◌≤◌, Bool, true, false, ◌||◌, List, [], ◌∷◌, ◌++◌, ◌==◌, Option, Some, None, is_some, nat_lt, refl, sym, ap, subst, ◌∙◌, arith, inl, inr, append-nil}
 use Rattle.std.proofs.lemmas.Bool.{cases_Bool}
 use Rattle.std.proofs.lemmas.Bool.Decides.{nat_tests}
 use Rattle.saa_core_spec.specs.Object.{one_if, times}
 use Rattle.saa_core_spec.proofs.Counts.{number_same, same_number, number_other, one_if-same, one_if-le, times-append}
 use Rattle.saa_core_words.specs.declared.line_word.LineWord.{LineWord}
-use Rattle.saa_core_words.specs.Words.{count_bits, line_word_of, answer_number}
+use Rattle.saa_core_words.specs.Words.{line_word_of, answer_number}
 use Rattle.saa_word_steps.specs.declared.place.Place.{Place}
 use Rattle.saa_word_steps.specs.declared.place.AfterShow.{AfterShow}
 use Rattle.saa_word_steps.specs.declared.place.AfterShow.TheVariants.{Ends, Again}
 use Rattle.saa_word_steps.specs.declared.place.Stage.{Stage}
 use Rattle.saa_word_steps.specs.declared.place.Stage.TheVariants.{Join, ShowLoad, ShowStore}
-use Rattle.saa_word_steps.specs.Needs.{Needs, AreNeeds}
+use Rattle.saa_word_steps.specs.Needs.{Needs}
 use Rattle.saa_word_steps.specs.AbstractState.{AbstractState, is_in, held_by, with_answer}
 use Rattle.saa_word_steps.specs.Steps.{IsRanged}
 use Rattle.saa_word_steps.proofs.AbstractRuns.{waits-some}
-use Rattle.saa_word_proofs.specs.Refinement.{joins_line, newest, is_holder, gives_up, IsLocallyTrue, IsOwn, IsShowing, IsHolding, IsMain, IsLine, AreSeats, AreAnswers, AreDebts, Invariant}
+use Rattle.saa_word_proofs.specs.Refinement.{joins_line, newest, is_holder, gives_up, IsLocallyTrue, IsOwn, IsShowing, IsHolding, IsMain, IsLine, AreAnswers, AreDebts, Invariant}
 use Rattle.saa_word_proofs.specs.Rows.{IsBehind, line_of, updated}
 use Rattle.saa_word_proofs.specs.Registering.{is_slot}
-use Rattle.saa_word_proofs.specs.StepRefinement.{StepRefines}
-use Rattle.saa_word_proofs.proofs.RefinementLemmas.Lists.{each-updated, updated-at, updated-other, newest-last, in-some, in-append, split-last, behind-frame, behind-front, behind-rest}
+use Rattle.saa_word_proofs.proofs.RefinementLemmas.Lists.{each-updated, updated-at, updated-other, newest-last, in-some, in-append, split-last, behind-same, behind-front, behind-rest}
 use Rattle.saa_word_proofs.proofs.RefinementLemmas.Frames.{holding-frame, stages-next}
-use Rattle.saa_word_proofs.proofs.RefinementLemmas.Rows.{moved, loaded, row-other, apart-at}
+use Rattle.saa_word_proofs.proofs.RefinementLemmas.Rows.{IsStep, moved, loaded, row-other, at-stage, seats-next, line-kept}
+use Rattle.saa_word_proofs.proofs.RefinementLemmas.Outcomes.{silent}
 
 -- a mark that counts is set
 slot-of : (mark : Bool) → 0 < one_if mark → mark ≡ true
@@ -41,72 +41,43 @@ due-inside needs places row standing state s place other there =
     let due : one_if (is_some (state.due other)) ≡ 1 = ap (λ (a : Option ℕ). one_if (is_some a)) (s.debts.due_to place other there).1 in
     s.seats.within other (slot-of (is_slot (standing other).registration) (omega (arith, due, s.seats.held other)))
 
--- what the holder knows is so of the store that follows a load
-after-load : (needs : Needs) (words : ℕ → LineWord) (me held : ℕ) (line cut : List (ℕ × ℕ)) (current other next value : ℕ) (afterwards : AfterShow)
-    → IsHolding needs words me held line cut (ShowLoad current value afterwards) → IsHolding needs words me held line cut (ShowStore other next value afterwards)
-after-load needs words me held line cut current other next value Ends h = h
-after-load needs words me held line cut current other next value (Again seen) h = h
+-- two stages that hold the flag alike: what is so of one is so of the other
+pub record AreAlike (needs : Needs) (words : ℕ → LineWord) (me held : ℕ) (line cut : List (ℕ × ℕ)) (one other : Stage) : Type 0 where
+  pub ranged : IsRanged needs one → IsRanged needs other
+  pub holder : is_holder other ≡ is_holder one
+  pub holding : IsHolding needs words me held line cut one → IsHolding needs words me held line cut other
 
--- and of the load that follows a store
-pub after-store : (needs : Needs) (words : ℕ → LineWord) (me held : ℕ) (line cut : List (ℕ × ℕ)) (current other next value : ℕ) (afterwards : AfterShow)
-    → IsHolding needs words me held line cut (ShowStore current next value afterwards) → IsHolding needs words me held line cut (ShowLoad other value afterwards)
-after-store needs words me held line cut current other next value Ends h = h
-after-store needs words me held line cut current other next value (Again seen) h = h
+-- the store that follows a load, and the load that follows a store
+load-store : (needs : Needs) (words : ℕ → LineWord) (me held : ℕ) (line cut : List (ℕ × ℕ)) (current other next value : ℕ) (afterwards : AfterShow)
+    → AreAlike needs words me held line cut (ShowLoad current value afterwards) (ShowStore other next value afterwards)
+load-store needs words me held line cut current other next value Ends = record { ranged = λ h. h; holder = refl; holding = λ h. h }
+load-store needs words me held line cut current other next value (Again seen) = record { ranged = λ h. h; holder = refl; holding = λ h. h }
 
--- a load and the store that follows it hold the flag alike
-holder-load : (current other next value : ℕ) (afterwards : AfterShow) → is_holder (ShowStore other next value afterwards) ≡ is_holder (ShowLoad current value afterwards)
-holder-load current other next value Ends = refl
-holder-load current other next value (Again seen) = refl
-
--- and so do a store and the next load
-pub holder-store : (current other next value : ℕ) (afterwards : AfterShow) → is_holder (ShowLoad other value afterwards) ≡ is_holder (ShowStore current next value afterwards)
-holder-store current other next value Ends = refl
-holder-store current other next value (Again seen) = refl
-
--- what the load remembers is within its bits at the store
-ranged-load : (needs : Needs) (current other next value : ℕ) (afterwards : AfterShow)
-    → IsRanged needs (ShowLoad current value afterwards) → IsRanged needs (ShowStore other next value afterwards)
-ranged-load needs current other next value Ends h = h
-ranged-load needs current other next value (Again seen) h = h
-
--- and at the next load
-pub ranged-store : (needs : Needs) (current other next value : ℕ) (afterwards : AfterShow)
-    → IsRanged needs (ShowStore current next value afterwards) → IsRanged needs (ShowLoad other value afterwards)
-ranged-store needs current other next value Ends h = h
-ranged-store needs current other next value (Again seen) h = h
+pub store-load : (needs : Needs) (words : ℕ → LineWord) (me held : ℕ) (line cut : List (ℕ × ℕ)) (current other next value : ℕ) (afterwards : AfterShow)
+    → AreAlike needs words me held line cut (ShowStore current next value afterwards) (ShowLoad other value afterwards)
+store-load needs words me held line cut current other next value Ends = record { ranged = λ h. h; holder = refl; holding = λ h. h }
+store-load needs words me held line cut current other next value (Again seen) = record { ranged = λ h. h; holder = refl; holding = λ h. h }
 
 -- The line word of the newest that is owed is looked at
-pub step-ShowLoad : (needs : Needs) → AreNeeds needs → needs.top < 2 ^ count_bits → (places : ℕ) (row : ℕ → ℕ) (standing : ℕ → Place) (state : AbstractState) (me : ℕ)
-    → places < 65536 → (s : Invariant needs places row standing state)
-    → (current value : ℕ) (afterwards : AfterShow) → (standing me).stage ≡ ShowLoad current value afterwards
-    → StepRefines needs places row standing state me (ShowLoad current value afterwards)
-step-ShowLoad needs lawful wide places row standing state me room s current value afterwards at =
+pub step-ShowLoad : (current value : ℕ) (afterwards : AfterShow) → IsStep (ShowLoad current value afterwards)
+step-ShowLoad current value afterwards needs lawful wide places row standing state me room s at =
+    let known = at-stage needs places row standing state me s _ at in
     let stage : Stage = ShowLoad current value afterwards in
-    let alone : IsLocallyTrue needs (standing me).registration (standing me).back stage =
-    subst (λ stage. IsLocallyTrue needs (standing me).registration (standing me).back stage) at (s.stages.alone me) in
-    let ranged : IsRanged needs stage = subst (λ stage. IsRanged needs stage) at (s.stages.ranged me) in
-    let showing : IsShowing (s.owed me) (s.answer_value me) stage = subst (λ stage. IsShowing (s.owed me) (s.answer_value me) stage) at (s.stages.showing me) in
-    let split = split-last (s.owed me) showing.1 in
-    let link : current ≡ split.last.0 + 1 = sym showing.0 ∙ ap (newest 0) split.is ∙ newest-last 0 split.before split.last in
+    let split = split-last (s.owed me) known.showing.1 in
+    let link : current ≡ split.last.0 + 1 = sym known.showing.0 ∙ ap (newest 0) split.is ∙ newest-last 0 split.before split.last in
     let there : 0 < times split.last.0 (s.owed me) =
     omega (arith, ap (λ (l : List (ℕ × ℕ)). times split.last.0 l) split.is, times-append split.last.0 split.before (split.last ∷ []), one_if-same split.last.0) in
     let links = behind-rest (line_of row) 0 split.before (split.last ∷ []) (subst (λ (l : List (ℕ × ℕ)). IsBehind (line_of row) 0 l) split.is (s.debts.links me)) in
     let older : (line_word_of (row current)).older ≡ newest 0 split.before = ap (λ (n : ℕ). (line_word_of (row n)).older) link ∙ links.1 in
     let next : ℕ = (line_word_of (row current)).older in
-    record {
-      events = [];
-      last = state;
-      run = refl;
-      names = refl;
-      inside = omega (arith, link, due-inside needs places row standing state s me split.last.0 (in-some split.last.0 (s.owed me) there));
-      stands = loaded needs places row (updated standing me (record (standing me) { stage = ShowStore current next value afterwards })) state current
-          (moved needs places row standing state me s (record (standing me) { stage = ShowStore current next value afterwards }) (λ out. refl) refl
-          (ranged-load needs current current next value afterwards ranged) alone (apart-at needs places row standing state me s stage at) tt
-          (split.before, split.last, split.is, link, older, showing.2)
-          (holder-load current current next value afterwards ∙ ap is_holder (sym at))
-          (λ it. after-load needs (line_of row) me state.count state.line s.cut current current next value afterwards
-          (subst (λ stage. IsHolding needs (line_of row) me state.count state.line s.cut stage) at (s.stages.holding me it))));
-    }
+    let alike = load-store needs (line_of row) me state.count state.line s.cut current current next value afterwards in
+    silent refl (omega (arith, link, due-inside needs places row standing state s me split.last.0 (in-some split.last.0 (s.owed me) there)))
+    (loaded needs places row (updated standing me (record (standing me) { stage = ShowStore current next value afterwards })) state current
+    (moved needs places row standing state me s (record (standing me) { stage = ShowStore current next value afterwards }) (λ out. refl) refl
+    (alike.ranged known.ranged) known.alone known.apart tt
+    (split.before, split.last, split.is, link, older, known.showing.2)
+    (alike.holder ∙ ap is_holder (sym at))
+    (λ it. alike.holding (known.holding it))))
 
 -- An answer word is written: the line words and the main word stay
 pub line-answer : (row : ℕ → ℕ) (places at number place : ℕ) → place < places → 0 < at → line_of (updated row (places + at) number) place ≡ line_of row place
@@ -117,19 +88,8 @@ line-answer row places at number place inside some =
 pub line-shown : (needs : Needs) (places : ℕ) (row : ℕ → ℕ) (standing : ℕ → Place) (state : AbstractState) (s : Invariant needs places row standing state) (at number : ℕ)
     → 0 < at → IsLine (line_of (updated row (places + at) number)) state.line s.cut s.uncut
 line-shown needs places row standing state s at number some =
-    let new : ℕ → LineWord = line_of (updated row (places + at) number) in
-    let same : (place : ℕ) → 0 < times place state.line → new place ≡ line_of row place =
-    λ place there. line-answer row places at number place (line-inside needs places row standing state s place there) some in
-    let fields : (place : ℕ) → 0 < times place state.line → ((new place).request ≡ (line_of row place).request) × ((new place).older ≡ (line_of row place).older) =
-    λ place there. (ap (λ (w : LineWord). w.request) (same place there), ap (λ (w : LineWord). w.older) (same place there)) in
-    record {
-      parts = s.line.parts;
-      granted = behind-frame (line_of row) new 0 s.cut (λ place there. fields place
-          (omega (arith, there, ap (λ (l : List (ℕ × ℕ)). times place l) s.line.parts, times-append place s.cut s.uncut))) s.line.granted;
-      stays = behind-frame (line_of row) new 0 s.uncut (λ place there. fields place
-          (omega (arith, there, ap (λ (l : List (ℕ × ℕ)). times place l) s.line.parts, times-append place s.cut s.uncut))) s.line.stays;
-      some = s.line.some;
-    }
+    line-kept (line_of row) (line_of (updated row (places + at) number)) state.line s.cut s.uncut s.line
+    (λ place there. line-answer row places at number place (line-inside needs places row standing state s place there) some)
 
 -- a place that doesn't join says nothing of its line word
 own-free : (word : LineWord) (stage : Stage) → joins_line stage ≡ false → IsOwn word stage
@@ -154,8 +114,8 @@ pub holding-shown : (needs : Needs) (places : ℕ) (row : ℕ → ℕ) (standing
     → 0 < at → (place : ℕ) (stage : Stage) → IsHolding needs (line_of row) place state.count state.line s.cut stage
     → IsHolding needs (line_of (updated row (places + at) number)) place state.count state.line s.cut stage
 holding-shown needs places row standing state s at number some mine stage h =
-    holding-frame needs (line_of row) (line_of (updated row (places + at) number)) mine state.count state.count state.line state.line [] s.cut stage (omega arith)
-    (sym (append-nil state.line)) refl (λ place there. line-answer row places at number place (line-inside needs places row standing state s place there) some) h
+    holding-frame (line_of row) (line_of (updated row (places + at) number)) state.count state.count state.line state.line [] (omega arith) (sym (append-nil state.line))
+    (λ place there. line-answer row places at number place (line-inside needs places row standing state s place there) some) needs mine s.cut stage refl h
 
 -- an object whose answers alone changed has the same main word
 pub main-shown : (needs : Needs) (places : ℕ) (row : ℕ → ℕ) (standing : ℕ → Place) (state : AbstractState) (s : Invariant needs places row standing state) (at number : ℕ)
@@ -177,7 +137,7 @@ main-shown needs places row standing state s at number due shown some =
 -- an answer that is shown holds its place as it did
 held-shown : (needs : Needs) (places : ℕ) (row : ℕ → ℕ) (standing : ℕ → Place) (state : AbstractState) (s : Invariant needs places row standing state) (asker value : ℕ)
     → state.due asker ≡ Some value → (other : ℕ)
-    → held_by other (record state { due = with_answer asker None state.due; shown = with_answer asker (state.due asker) state.shown }) ≡ one_if (is_slot (standing other).registration)
+    → held_by other (record state { due = with_answer asker None state.due; shown = with_answer asker (state.due asker) state.shown }) ≡ held_by other state
 held-shown needs places row standing state s asker value due other =
     elim (cases_Bool (other == asker)) [
       | inl same ↦
@@ -185,18 +145,8 @@ held-shown needs places row standing state s asker value due other =
           let due_other : one_if (is_some (state.due other)) ≡ 1 = ap (λ (n : ℕ). one_if (is_some (state.due n))) is ∙ ap (λ (a : Option ℕ). one_if (is_some a)) due in
           let due_asker : one_if (is_some (state.due asker)) ≡ 1 = ap (λ (a : Option ℕ). one_if (is_some a)) due in
           rw same (omega (arith, s.seats.held other, due_other, due_asker, one_if-le (is_slot (standing other).registration)))
-      | inr apart ↦ rw apart (s.seats.held other)
+      | inr apart ↦ rw apart refl
     ]
-
--- the same seats, for other answers that hold each place as they did
-seats-shown : (needs : Needs) (places : ℕ) (row : ℕ → ℕ) (standing : ℕ → Place) (state last : AbstractState) (s : Invariant needs places row standing state) (me : ℕ) (place : Place)
-    → (places ≤ me → joins_line place.stage ≡ false) → is_slot place.registration ≡ is_slot (standing me).registration
-    → ((other : ℕ) → held_by other last ≡ one_if (is_slot (standing other).registration)) → AreSeats places (updated standing me place) last
-seats-shown needs places row standing state last s me place free same held = record {
-  held = each-updated (λ (n : ℕ) (p : Place). held_by n last ≡ one_if (is_slot p.registration)) standing me place (held me ∙ ap one_if (sym same)) (λ other apart. held other);
-  within = each-updated (λ (n : ℕ) (p : Place). is_slot p.registration ≡ true → n < places) standing me place (λ slot. s.seats.within me (sym same ∙ slot)) (λ other apart. s.seats.within other);
-  beyond = each-updated (λ (n : ℕ) (p : Place). places ≤ n → joins_line p.stage ≡ false) standing me place free (λ other apart. s.seats.beyond other);
-}
 
 -- the answer words once an answer is shown
 answers-shown : (needs : Needs) (places : ℕ) (row : ℕ → ℕ) (standing : ℕ → Place) (state : AbstractState) (s : Invariant needs places row standing state)
@@ -229,6 +179,8 @@ debts-shown : (needs : Needs) (places : ℕ) (row : ℕ → ℕ) (standing : ℕ
     → AreDebts (line_of (updated row (places + (asker.0 + 1)) number)) (with_answer asker.0 None state.due) state.granter (updated s.owed me before) s.answer_value
 debts-shown needs places row standing state s me before asker number is =
     let new : ℕ → LineWord = line_of (updated row (places + (asker.0 + 1)) number) in
+    let same : (place : ℕ) → place < places → new place ≡ line_of row place =
+    λ place inside. line-answer row places (asker.0 + 1) number place inside (omega arith) in
     let whole : (other : ℕ) → times other (s.owed me) ≡ times other before + times other (asker ∷ []) =
     λ other. ap (λ (l : List (ℕ × ℕ)). times other l) is ∙ times-append other before (asker ∷ []) in
     let still : (other : ℕ) → is_in other before ≡ true → is_in other (s.owed me) ≡ true =
@@ -274,19 +226,12 @@ debts-shown needs places row standing state s me before asker number is =
           (λ other. omega (arith, s.debts.once me other, whole other)) (λ place apart other. s.debts.once place other);
       small = s.debts.small;
       links = each-updated (λ (place : ℕ) (l : List (ℕ × ℕ)). IsBehind new 0 l) s.owed me before
-          (behind-frame (line_of row) new 0 before (λ place there. fields place (due-inside needs places row standing state s me place (still place (in-some place before there))))
+          (behind-same (line_of row) new 0 before (λ place there. same place (due-inside needs places row standing state s me place (still place (in-some place before there))))
           (behind-front (line_of row) 0 before (asker ∷ []) (subst (λ (l : List (ℕ × ℕ)). IsBehind (line_of row) 0 l) is (s.debts.links me))))
-          (λ other apart. behind-frame (line_of row) new 0 (s.owed other)
-          (λ place there. fields place (due-inside needs places row standing state s other place (in-some place (s.owed other) there))) (s.debts.links other));
+          (λ other apart. behind-same (line_of row) new 0 (s.owed other)
+          (λ place there. same place (due-inside needs places row standing state s other place (in-some place (s.owed other) there))) (s.debts.links other));
     }
   where
-    fields : (place : ℕ) → place < places
-        → ((line_of (updated row (places + (asker.0 + 1)) number) place).request ≡ (line_of row place).request)
-        × ((line_of (updated row (places + (asker.0 + 1)) number) place).older ≡ (line_of row place).older)
-    fields place inside =
-        let same = line-answer row places (asker.0 + 1) number place inside (omega arith) in
-        (ap (λ (w : LineWord). w.request) same, ap (λ (w : LineWord). w.older) same)
-
     in-front : (other : ℕ) (front : List (ℕ × ℕ)) (last : ℕ × ℕ) → last.0 == other ≡ false → is_in other (front ++ last ∷ []) ≡ true → is_in other front ≡ true
     in-front other front last differs there =
         let parts : (is_in other front || is_in other (last ∷ [])) ≡ true = sym (in-append other front (last ∷ [])) ∙ there in
@@ -321,7 +266,7 @@ shown needs places row standing state me s before asker is stage never ranged al
       free = s.free;
       main = main-shown needs places row standing state s (asker.0 + 1) number (with_answer asker.0 None state.due) (with_answer asker.0 (state.due asker.0) state.shown) some;
       line = line-shown needs places row standing state s (asker.0 + 1) number some;
-      seats = seats-shown needs places row standing state last s me place (λ out. never) refl (held-shown needs places row standing state s asker.0 (s.answer_value me) due);
+      seats = seats-next places standing state last me place s.seats (λ out. never) refl (held-shown needs places row standing state s asker.0 (s.answer_value me) due);
       answers = answers-shown needs places row standing state s asker.0 (s.answer_value me) due (s.debts.small me);
       debts = debts-shown needs places row standing state s me before asker number is;
       stages = stages-next needs (line_of row) (line_of (updated row (places + (asker.0 + 1)) number)) standing state.count state.count state.line state.line s.cut s.cut

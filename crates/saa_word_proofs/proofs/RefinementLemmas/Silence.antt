@@ -8,7 +8,7 @@ use Rattle.saa_word_steps.specs.declared.place.PollMode.TheVariants.{Tries, Awai
 use Rattle.saa_word_steps.specs.declared.place.Stage.{Stage}
 use Rattle.saa_word_steps.specs.declared.place.Stage.TheVariants.{Take, FlagLoad, FlagExchange, PoisonLoad, PoisonExchange}
 use Rattle.saa_word_steps.specs.declared.place.Next.{Next}
-use Rattle.saa_word_steps.specs.declared.place.Next.TheVariants.{Going, Waits, Done}
+use Rattle.saa_word_steps.specs.declared.place.Next.TheVariants.{Waits}
 use Rattle.saa_word_steps.specs.Needs.{Needs, AreNeeds, may_refuse}
 use Rattle.saa_word_steps.specs.AbstractState.{AbstractState}
 use Rattle.saa_word_steps.specs.Steps.{word_at, operation_of, next_of, taken_answer, poisoning}
@@ -52,8 +52,6 @@ silent-by : (needs : Needs) (places : ℕ) (row : ℕ → ℕ) (standing : ℕ �
     → Invariant needs places row standing state → (made : StepRefines needs places row standing state me (standing me).stage)
     → (next : Next) → next_of needs me (standing me) (standing me).stage (row (word_at (operation_of needs places me (standing me).stage))) ≡ next
     → (other : StepRefines needs places row standing state me (standing me).stage) × (next ≡ Waits → other.events ≡ [])
-silent-by needs places row standing state me s made (Going place) is = (made, λ waits. absurd (cc))
-silent-by needs places row standing state me s made (Done place answer) is = (made, λ waits. absurd (cc))
 silent-by needs places row standing state me s made Waits is =
     let stage : Stage = (standing me).stage in
     let only = only-stalls-anyone needs places row standing state me s stage refl is in
@@ -71,6 +69,7 @@ silent-by needs places row standing state me s made Waits is =
       },
       λ waits. refl,
     )
+silent-by needs places row standing state me s made _ is = (made, λ waits. absurd (cc))
 
 -- The step of a place or of a visitor
 pub silent-step-anyone : (needs : Needs) → AreNeeds needs → needs.top < 2 ^ count_bits → (places : ℕ) (row : ℕ → ℕ) (standing : ℕ → Place) (state : AbstractState) (me : ℕ)

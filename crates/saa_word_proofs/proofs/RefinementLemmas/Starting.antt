@@ -3,7 +3,7 @@ use Rattle.std.proofs.Common.{◌^◌, ◌≡◌, ℕ, ◌<◌, ◌≤◌, true,
 use Rattle.std.proofs.lemmas.Bool.{cases_Bool}
 use Rattle.std.proofs.lemmas.Bool.Decides.{nat_tests}
 use Rattle.saa_core_spec.specs.declared.lock.Mode.{Mode}
-use Rattle.saa_core_spec.specs.declared.lock.Mode.TheVariants.{Exclusive as ModeExclusive, Shared as ModeShared, WaitExclusive, WaitShared}
+use Rattle.saa_core_spec.specs.declared.lock.Mode.TheVariants.{WaitShared}
 use Rattle.saa_core_words.specs.Words.{count_bits}
 use Rattle.saa_word_steps.specs.declared.call.WordCall.{WordCall}
 use Rattle.saa_word_steps.specs.declared.call.WordCall.TheVariants.{Try, Register, Release, Available, Shut, IsShut, TryLock, TryShare, RegisterMode, ReleaseLock, ReleaseShare, Downgrade, PoisonLock, ClearPoison, IsFree, IsLocked, IsShared, IsPoisoned, TryPoll, Poll, Cancel}
@@ -39,12 +39,13 @@ use Rattle.saa_word_proofs.proofs.RefinementLemmas.Outcomes.{not-holder}
 begun : (needs : Needs) (places : ℕ) (row : ℕ → ℕ) (standing : ℕ → Place) (state : AbstractState) (me : ℕ) (s : Invariant needs places row standing state) (place : Place)
     → (places ≤ me → joins_line place.stage ≡ false) → (standing me).stage ≡ Quiet → is_slot place.registration ≡ is_slot (standing me).registration
     → IsRanged needs place.stage → IsLocallyTrue needs place.registration place.back place.stage → gives_up place.back place.stage ≡ false
-    → IsOwn (line_of row me) place.stage → ((owed : List (ℕ × ℕ)) (answer_value : ℕ) → owed ≡ [] → IsShowing owed answer_value place.stage) → is_holder place.stage ≡ false
+    → IsOwn (line_of row me) place.stage → IsShowing [] (s.answer_value me) place.stage → is_holder place.stage ≡ false
     → Invariant needs places row (updated standing me place) state
 begun needs places row standing state me s place free quiet same ranged alone keeps own showing none =
     moved needs places row standing state me s place free same ranged alone
     (λ gives. (let wrong : true ≡ false = sym gives ∙ keeps in absurd (cc))) own
-    (showing (s.owed me) (s.answer_value me) (subst (λ stage. IsShowing (s.owed me) (s.answer_value me) stage) quiet (s.stages.showing me))) (none ∙ ap is_holder (sym quiet))
+    (subst (λ (owed : List (ℕ × ℕ)). IsShowing owed (s.answer_value me) place.stage)
+    (sym (subst (λ stage. IsShowing (s.owed me) (s.answer_value me) stage) quiet (s.stages.showing me))) showing) (none ∙ ap is_holder (sym quiet))
     (λ it. absurd (not-holder needs places row standing state me s (ap is_holder quiet) it))
 
 -- a call that is done at once leaves its place as it was
@@ -55,30 +56,26 @@ same-place needs places row standing state me s = subst (λ (f : ℕ → Place).
 -- a call that isn't registered holds no place
 idle-slot : (registration : Registration) → is_idle registration ≡ true → is_slot registration ≡ false
 idle-slot Idle is = refl
-idle-slot (AnsweredAtOnce value request) is = absurd (cc)
-idle-slot (Queued request) is = absurd (cc)
+idle-slot _ is = absurd (cc)
 
 -- the number of a mode is small
 mode-small : (mode : Mode) → mode_number mode < 65536
-mode-small ModeExclusive = omega arith
-mode-small ModeShared = omega arith
-mode-small WaitExclusive = omega arith
 mode-small WaitShared = omega arith
+mode-small _ = omega arith
 
 -- a reading call that starts
 reading-starts : (needs : Needs) (places : ℕ) (row : ℕ → ℕ) (standing : ℕ → Place) (state : AbstractState) (me : ℕ) (s : Invariant needs places row standing state)
     → (standing me).stage ≡ Quiet → (reading : Reading)
     → Invariant needs places row (updated standing me (record (standing me) { stage = ReadLoad reading })) state
 reading-starts needs places row standing state me s quiet reading =
-    begun needs places row standing state me s (record (standing me) { stage = ReadLoad reading }) (λ out. refl) quiet refl tt tt refl tt (λ owed answer_value nothing. nothing) refl
+    begun needs places row standing state me s (record (standing me) { stage = ReadLoad reading }) (λ out. refl) quiet refl tt tt refl tt refl refl
 
 -- an ask that starts
 ask-starts : (needs : Needs) (places : ℕ) (row : ℕ → ℕ) (standing : ℕ → Place) (state : AbstractState) (me : ℕ) (s : Invariant needs places row standing state)
     → (standing me).stage ≡ Quiet → (ask : Ask) → (places ≤ me → ask.joins ≡ false) → ask.request < 65536 → (ask.joins ≡ true → is_slot (standing me).registration ≡ false)
     → Invariant needs places row (updated standing me (record (standing me) { stage = AcquireLoad ask })) state
 ask-starts needs places row standing state me s quiet ask free small idle =
-    begun needs places row standing state me s (record (standing me) { stage = AcquireLoad ask }) free quiet refl tt (small, idle) refl tt
-    (λ owed answer_value nothing. nothing) refl
+    begun needs places row standing state me s (record (standing me) { stage = AcquireLoad ask }) free quiet refl tt (small, idle) refl tt refl refl
 
 -- a try that starts
 try-starts : (needs : Needs) (places : ℕ) (row : ℕ → ℕ) (standing : ℕ → Place) (state : AbstractState) (me : ℕ) (s : Invariant needs places row standing state)
@@ -104,8 +101,7 @@ release-starts : (needs : Needs) (places : ℕ) (row : ℕ → ℕ) (standing : 
     → (standing me).stage ≡ Quiet → (what : ReleaseAmount)
     → Invariant needs places row (updated standing me (record (standing me) { stage = ReleaseLoad what; back = Tells })) state
 release-starts needs places row standing state me s quiet what =
-    begun needs places row standing state me s (record (standing me) { stage = ReleaseLoad what; back = Tells }) (λ out. refl) quiet refl tt refl refl tt
-    (λ owed answer_value nothing. nothing) refl
+    begun needs places row standing state me s (record (standing me) { stage = ReleaseLoad what; back = Tells }) (λ out. refl) quiet refl tt refl refl tt refl refl
 
 -- a poll that starts; it doesn't give up what it is registered as
 poll-starts : (needs : Needs) (places : ℕ) (row : ℕ → ℕ) (standing : ℕ → Place) (state : AbstractState) (me : ℕ) (s : Invariant needs places row standing state) (taking : PollMode)
@@ -118,8 +114,7 @@ poll-starts needs places row standing state me s taking quiet (AnsweredAtOnce va
     (subst (λ stage. IsLocallyTrue needs Idle (standing me).back stage) (sym quiet) tt) (s.stages.apart me) (s.stages.own me) (s.stages.showing me) refl
     (s.stages.holding me)
 poll-starts needs places row standing state me s taking quiet (Queued request) is alone keeps =
-    begun needs places row standing state me s (record (standing me) { stage = Take taking }) (λ out. refl) quiet refl tt (alone refl) keeps tt
-    (λ owed answer_value nothing. nothing) refl
+    begun needs places row standing state me s (record (standing me) { stage = Take taking }) (λ out. refl) quiet refl tt (alone refl) keeps tt refl refl
 
 -- a cancel that starts: it gives back what it was granted, or looks for itself in the line
 cancel-starts : (needs : Needs) (places : ℕ) (row : ℕ → ℕ) (standing : ℕ → Place) (state : AbstractState) (me : ℕ) (s : Invariant needs places row standing state)
@@ -129,13 +124,12 @@ cancel-starts needs places row standing state me s quiet Idle is = same-place ne
 cancel-starts needs places row standing state me s quiet (AnsweredAtOnce value request) is =
     elim (cases_Bool (is_taken_up needs request value)) [
       | inl up ↦ rw up (begun needs places row standing state me s (record (standing me) { registration = Idle; stage = ReleaseLoad (Requested request); back = Ends }) (λ out. refl) quiet
-          (ap is_slot (sym is)) tt refl refl tt (λ owed answer_value nothing. nothing) refl)
+          (ap is_slot (sym is)) tt refl refl tt refl refl)
       | inr free ↦ rw free (begun needs places row standing state me s (record (standing me) { registration = Idle; stage = Quiet }) (λ out. refl) quiet
-          (ap is_slot (sym is)) tt tt refl tt (λ owed answer_value nothing. nothing) refl)
+          (ap is_slot (sym is)) tt tt refl tt refl refl)
     ]
 cancel-starts needs places row standing state me s quiet (Queued request) is =
-    begun needs places row standing state me s (record (standing me) { stage = FlagLoad; back = Takes request }) (λ out. refl) quiet refl tt is refl tt
-    (λ owed answer_value nothing. nothing) refl
+    begun needs places row standing state me s (record (standing me) { stage = FlagLoad; back = Takes request }) (λ out. refl) quiet refl tt is refl tt refl refl
 
 -- A call that starts leaves all standing together; a visitor's doesn't go on to join the line
 pub starts-anyone : (needs : Needs) → needs.top < 2 ^ count_bits → (places : ℕ) (row : ℕ → ℕ) (standing : ℕ → Place) (state : AbstractState) (me : ℕ) (call : WordCall)
@@ -166,9 +160,6 @@ starts-anyone needs wide places row standing state me (Release count) free s qui
           ]
     ]
 starts-anyone needs wide places row standing state me Available free s quiet taken = reading-starts needs places row standing state me s quiet ReadsAvailable
-starts-anyone needs wide places row standing state me Shut free s quiet taken =
-    begun needs places row standing state me s (record (standing me) { stage = PoisonLoad; back = Tells }) (λ out. refl) quiet refl tt refl refl tt
-    (λ owed answer_value nothing. nothing) refl
 starts-anyone needs wide places row standing state me IsShut free s quiet taken = reading-starts needs places row standing state me s quiet ReadsPoisoned
 starts-anyone needs wide places row standing state me TryLock free s quiet taken = try-starts needs places row standing state me s quiet 0 (omega arith)
 starts-anyone needs wide places row standing state me TryShare free s quiet taken = try-starts needs places row standing state me s quiet 1 (omega arith)
@@ -177,11 +168,8 @@ starts-anyone needs wide places row standing state me (RegisterMode mode) free s
 starts-anyone needs wide places row standing state me ReleaseLock free s quiet taken = release-starts needs places row standing state me s quiet (Requested 0)
 starts-anyone needs wide places row standing state me ReleaseShare free s quiet taken = release-starts needs places row standing state me s quiet (Requested 1)
 starts-anyone needs wide places row standing state me Downgrade free s quiet taken = release-starts needs places row standing state me s quiet AllButAShare
-starts-anyone needs wide places row standing state me PoisonLock free s quiet taken =
-    begun needs places row standing state me s (record (standing me) { stage = PoisonLoad; back = Tells }) (λ out. refl) quiet refl tt refl refl tt
-    (λ owed answer_value nothing. nothing) refl
 starts-anyone needs wide places row standing state me ClearPoison free s quiet taken =
-    begun needs places row standing state me s (record (standing me) { stage = Clear }) (λ out. refl) quiet refl tt taken refl tt (λ owed answer_value nothing. nothing) refl
+    begun needs places row standing state me s (record (standing me) { stage = Clear }) (λ out. refl) quiet refl tt taken refl tt refl refl
 starts-anyone needs wide places row standing state me IsFree free s quiet taken = reading-starts needs places row standing state me s quiet ReadsFree
 starts-anyone needs wide places row standing state me IsLocked free s quiet taken = reading-starts needs places row standing state me s quiet ReadsLocked
 starts-anyone needs wide places row standing state me IsShared free s quiet taken = reading-starts needs places row standing state me s quiet ReadsShared
@@ -192,6 +180,8 @@ starts-anyone needs wide places row standing state me Poll free s quiet taken =
     poll-starts needs places row standing state me s Awaits quiet (standing me).registration refl (λ slot. slot) refl
 starts-anyone needs wide places row standing state me Cancel free s quiet taken =
     cancel-starts needs places row standing state me s quiet (standing me).registration refl
+starts-anyone needs wide places row standing state me _ free s quiet taken =
+    begun needs places row standing state me s (record (standing me) { stage = PoisonLoad; back = Tells }) (λ out. refl) quiet refl tt refl refl tt refl refl
 
 -- the same at a place
 pub starts : (needs : Needs) → needs.top < 2 ^ count_bits → (places : ℕ) (row : ℕ → ℕ) (standing : ℕ → Place) (state : AbstractState) (me : ℕ) (call : WordCall)
@@ -205,9 +195,8 @@ starts needs wide places row standing state me call here s quiet taken =
 -- a poll, a cancel and a registration that start
 poll-begun : (needs : Needs) (place : Place) (taking : PollMode) (call : WordCall) (registration : Registration) → place.stage ≡ Quiet
     → ((request : ℕ) → IsTaking call (Queued request) taking []) → IsBegun needs call registration (polled_as place taking registration)
-poll-begun needs place taking call Idle quiet is = quiet
-poll-begun needs place taking call (AnsweredAtOnce value request) quiet is = quiet
 poll-begun needs place taking call (Queued request) quiet is = is request
+poll-begun needs place taking call _ quiet is = quiet
 
 cancel-begun : (needs : Needs) (place : Place) (registration : Registration) → place.stage ≡ Quiet
     → IsBegun needs Cancel registration (cancelled_as needs place registration)
@@ -249,21 +238,10 @@ call-begun needs place (Release count) quiet taken =
             | inr some ↦ rw (fits, some) (refl, refl)
           ]
     ]
-call-begun needs place Available quiet taken = (refl, refl)
 call-begun needs place Shut quiet taken = (taken, refl, refl)
-call-begun needs place IsShut quiet taken = (refl, refl)
-call-begun needs place TryLock quiet taken = (refl, refl)
-call-begun needs place TryShare quiet taken = (refl, refl)
 call-begun needs place (RegisterMode mode) quiet taken = register-begun needs place (RegisterMode mode) (mode_number mode) quiet refl
-call-begun needs place ReleaseLock quiet taken = (refl, refl)
-call-begun needs place ReleaseShare quiet taken = (refl, refl)
-call-begun needs place Downgrade quiet taken = (refl, refl)
 call-begun needs place PoisonLock quiet taken = (taken, refl, refl)
-call-begun needs place ClearPoison quiet taken = (refl, refl)
-call-begun needs place IsFree quiet taken = (refl, refl)
-call-begun needs place IsLocked quiet taken = (refl, refl)
-call-begun needs place IsShared quiet taken = (refl, refl)
-call-begun needs place IsPoisoned quiet taken = (refl, refl)
 call-begun needs place TryPoll quiet taken = poll-begun needs place Tries TryPoll place.registration quiet (λ request. (refl, refl))
 call-begun needs place Poll quiet taken = poll-begun needs place Awaits Poll place.registration quiet (λ request. (refl, refl))
 call-begun needs place Cancel quiet taken = cancel-begun needs place place.registration quiet
+call-begun needs place _ quiet taken = (refl, refl)

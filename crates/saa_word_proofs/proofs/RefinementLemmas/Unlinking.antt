@@ -14,21 +14,22 @@ use Rattle.saa_word_steps.specs.declared.place.Stage.{Stage}
 use Rattle.saa_word_steps.specs.declared.place.Stage.TheVariants.{Quiet, BackLoad, Forward, LookLoad, Unlink, DropTail}
 use Rattle.saa_word_steps.specs.declared.call.Answer.TheVariants.{Unit as Ended}
 use Rattle.saa_word_steps.specs.declared.place.Next.{Next}
-use Rattle.saa_word_steps.specs.Needs.{Needs, AreNeeds}
+use Rattle.saa_word_steps.specs.Needs.{Needs}
 use Rattle.saa_word_steps.specs.declared.event.Event.TheVariants.{Cancelled}
 use Rattle.saa_word_steps.specs.AbstractState.{AbstractState, IsRun, IsSettledAt, is_empty}
 use Rattle.saa_word_steps.specs.Steps.{IsRanged, no_line, dropped_word, left_line, done, walking}
-use Rattle.saa_word_proofs.specs.Refinement.{newest, IsAhead, is_holder, IsLocallyTrue, IsShowing, Work, IsAdded, IsAt, IsFound, IsHolding, IsMain, IsLeaving, IsOwn, gives_up, Invariant}
+use Rattle.saa_word_proofs.specs.Refinement.{newest, IsAhead, is_holder, IsLocallyTrue, IsShowing, Work, IsAdded, IsAt, IsFound, IsHolding, IsMain, IsOwn, gives_up, Invariant}
 use Rattle.saa_word_proofs.specs.Rows.{IsBehind, line_of, main_of, updated}
 use Rattle.saa_word_proofs.specs.StepRefinement.{StepRefines, place_after}
 use Rattle.saa_word_proofs.specs.History.{of_place}
-use Rattle.saa_word_proofs.proofs.RefinementLemmas.Lists.{newest-any, newest-last, behind-front, ahead-frame}
-use Rattle.saa_word_proofs.proofs.RefinementLemmas.Frames.{oldest-stands, work-behind}
-use Rattle.saa_word_proofs.proofs.RefinementLemmas.Rows.{main-found, count-small, line-main, line-at, line-other, row-other, moved, loaded}
-use Rattle.saa_word_proofs.proofs.RefinementLemmas.Holders.{main-now, calm-held, holding-some, never-barren}
-use Rattle.saa_word_proofs.proofs.RefinementLemmas.Linking.{flag-held, flag-knows, in-line, line-room, IsLooked, looked, linked-all}
-use Rattle.saa_word_proofs.proofs.RefinementLemmas.Granting.{in-no, newest-rest, some-append, front-none, front-some, holder-none, nobody}
+use Rattle.saa_word_proofs.proofs.RefinementLemmas.Lists.{newest-any, newest-last, behind-front, ahead-frame, front-none, front-some}
+use Rattle.saa_word_proofs.proofs.RefinementLemmas.Frames.{oldest-stands, work-behind, whole-work}
+use Rattle.saa_word_proofs.proofs.RefinementLemmas.Rows.{IsOwnStep, IsAtStage, at-stage, main-found, count-small, line-main, line-at, line-other, row-other, moved, loaded}
+use Rattle.saa_word_proofs.proofs.RefinementLemmas.Holders.{some-behind, some-append, main-now, calm-held, holding-some, never-barren}
+use Rattle.saa_word_proofs.proofs.RefinementLemmas.Linking.{flag-held, in-line, line-room, IsLooked, looked, linked-all}
+use Rattle.saa_word_proofs.proofs.RefinementLemmas.Granting.{in-no, newest-rest, holder-none, nobody}
 use Rattle.saa_word_proofs.proofs.RefinementLemmas.Leaving.{left, left-run, alone-behind, found-parts, found-room, found-once, unlinked, newer-same, leaving}
+use Rattle.saa_word_proofs.proofs.RefinementLemmas.Outcomes.{silent}
 
 -- The line as the holder saw it once it has left, where somebody is behind it
 abbrev work-left : (me held older : ℕ) (line : List (ℕ × ℕ)) (seen : Word) (work : Work held line seen) (found : IsFound me work.front older)
@@ -47,7 +48,7 @@ main-left : (needs : Needs) (number : ℕ) (state : AbstractState) (holder : ℕ
     → IsMain needs number state holder → state.poisoned ≡ false → ((holder == 0) ≡ true → ⊥) → state.line ≡ before ++ gone ∷ after → is_empty after ≡ false
     → IsMain needs number (left state (before ++ after)) holder
 main-left needs number state holder before after gone was calm held parts some =
-    let waits : is_empty (before ++ after) ≡ false = some-rest before after some in
+    let waits : is_empty (before ++ after) ≡ false = some-behind before after some in
     record {
       whole = was.whole;
       count = was.count;
@@ -60,10 +61,6 @@ main-left needs number state holder before after gone was calm held parts some =
       closed = λ free. absurd (held free);
       settled = λ closed. let wrong : true ≡ false = ap not (sym waits) ∙ closed in absurd (cc);
     }
-  where
-    some-rest : (front behind : List (ℕ × ℕ)) → is_empty behind ≡ false → is_empty (front ++ behind) ≡ false
-    some-rest [] behind there = there
-    some-rest (asker ∷ rest) behind there = refl
 
 -- What unlinking leaves, for any stage that the holder goes on at
 unlinking : (needs : Needs) (places : ℕ) (row : ℕ → ℕ) (standing : ℕ → Place) (state : AbstractState) (me : ℕ) (s : Invariant needs places row standing state)
@@ -128,14 +125,10 @@ unlinking needs places row standing state me s seen work newer older line found 
     (λ is. holding new ahead) (λ other differs. refl))
 
 -- Where there are waiters behind the holder, the first of them is linked to the place before the holder
-pub step-Unlink : (needs : Needs) → AreNeeds needs → needs.top < 2 ^ count_bits → (places : ℕ) (row : ℕ → ℕ) (standing : ℕ → Place) (state : AbstractState) (me : ℕ)
-    → places < 65536 → me < places → (s : Invariant needs places row standing state)
-    → (seen : Word) (newer : ℕ) (line : LineWord) (older : ℕ) → (standing me).stage ≡ Unlink seen newer line older
-    → StepRefines needs places row standing state me (Unlink seen newer line older)
-step-Unlink needs lawful wide places row standing state me room here s seen newer line older at =
-    let knows = flag-knows needs places row standing state me s (Unlink seen newer line older) at refl in
-    let ranged = subst (λ (stage : Stage). IsRanged needs stage) at (s.stages.ranged me) in
-    let showing = subst (λ (stage : Stage). IsShowing (s.owed me) (s.answer_value me) stage) at (s.stages.showing me) in
+pub step-Unlink : (seen : Word) (newer : ℕ) (line : LineWord) (older : ℕ) → IsOwnStep (Unlink seen newer line older)
+step-Unlink seen newer line older needs lawful wide places row standing state me room here s at =
+    let known = at-stage needs places row standing state me s _ at in
+    let knows = known.holding (known.mine refl) in
     let work : Work state.count state.line seen = knows.0 in
     let before : List (ℕ × ℕ) = knows.2.0 in
     let after : List (ℕ × ℕ) = work.behind ++ work.joined in
@@ -155,7 +148,7 @@ step-Unlink needs lawful wide places row standing state me room here s seen newe
                 let nobody : before ≡ [] = front-none before older knows.2.3 first in
                 rw first
                 (unlinking needs places row standing state me s seen work newer older line knows.2 (Forward seen newer seen.count) here (ap is_holder at)
-                knows.1 knows.3 knows.4 (ranged, ranged) tt refl (λ word. tt) showing refl
+                knows.1 knows.3 knows.4 (known.ranged, known.ranged) tt refl (λ word. tt) known.showing refl
                 (λ new ahead. (
                   work_now,
                   refl,
@@ -165,7 +158,7 @@ step-Unlink needs lawful wide places row standing state me room here s seen newe
             | inr others ↦
                 rw others
                 (unlinking needs places row standing state me s seen work newer older line knows.2 (BackLoad seen older newer) here (ap is_holder at)
-                knows.1 knows.3 knows.4 ranged tt refl (λ word. tt) showing refl
+                knows.1 knows.3 knows.4 known.ranged tt refl (λ word. tt) known.showing refl
                 (λ new ahead. (work_now, refl, (knows.2.3, front-some before older knows.2.3 others, knows.3.0, ahead))))
           ];
     }
@@ -212,14 +205,14 @@ dropping needs places row standing state me s seen older request before stage ne
 -- the exchange succeeds: the holder was the newest, and nobody is behind it
 dropped-step : (needs : Needs) (places : ℕ) (row : ℕ → ℕ) (standing : ℕ → Place) (state : AbstractState) (me : ℕ) → me < places
     → (s : Invariant needs places row standing state) → (seen : Word) (older : ℕ) → row 0 == word_number count_bits seen ≡ true → s.holder ≡ me + 1
-    → IsRanged needs (DropTail seen older) → IsLocallyTrue needs (standing me).registration (standing me).back (DropTail seen older) → s.owed me ≡ []
-    → IsHolding needs (line_of row) me state.count state.line s.cut (DropTail seen older)
+    → IsAtStage needs places row standing state me s (DropTail seen older)
     → StepRefines needs places row standing state me (DropTail seen older)
-dropped-step needs places row standing state me here s seen older same mine ranged alone nothing knows =
+dropped-step needs places row standing state me here s seen older same mine known =
+    let knows = known.holding mine in
     let work : Work state.count state.line seen = knows.0 in
     let before : List (ℕ × ℕ) = knows.2.0 in
     let request : ℕ = knows.2.1 in
-    let found : main_of row ≡ seen = main-found (row 0) seen ranged alone.1 same in
+    let found : main_of row ≡ seen = main-found (row 0) seen known.ranged known.alone.1 same in
     let parts : state.line ≡ before ++ (me, request) ∷ work.joined =
     found-parts me state.count older state.line seen work knows.2 ∙ ap (λ (l : List (ℕ × ℕ)). before ++ (me, request) ∷ (l ++ work.joined)) knows.3 in
     let once : times me state.line ≡ 1 = found-once places standing state me request before work.joined s.seats parts in
@@ -246,23 +239,16 @@ dropped-step needs places row standing state me here s seen older same mine rang
                 subst (λ (n : Next). Invariant needs places (updated row 0 number) (updated standing me (place_after (standing me) n)) (left state before))
                 (let is : done (left_line (standing me)) Ended ≡ after = rw first refl in is)
                 (dropping needs places row standing state me s seen older request before Quiet 0 here mine knows.1 found line knows.2.3
-                tt tt refl (λ word. tt) nothing (sym (nobody me)) (λ is. absurd (omega (arith, is)))
+                tt tt refl (λ word. tt) known.showing (sym (nobody me)) (λ is. absurd (omega (arith, is)))
                 (λ other apart. holder-none s.holder me other mine apart) first)
             | inr others ↦
                 subst (λ (n : Next). Invariant needs places (updated row 0 number) (updated standing me (place_after (standing me) n)) (left state before))
                 (let is : walking (left_line (standing me)) (dropped_word seen older) ≡ after = rw others refl in is)
                 (dropping needs places row standing state me s seen older request before (BackLoad (dropped_word seen older) older 0) s.holder
                 here mine knows.1 found line knows.2.3
-                ranged tt refl (λ word. tt) nothing (sym (ap (λ (n : ℕ). n == me + 1) mine ∙ number_same (me + 1)))
+                known.ranged tt refl (λ word. tt) known.showing (sym (ap (λ (n : ℕ). n == me + 1) mine ∙ number_same (me + 1)))
                 (λ keeps. (
-                  record {
-                    front = before;
-                    behind = [];
-                    joined = [];
-                    parts = sym (append-nil before);
-                    tail = knows.2.3 ∙ ap (newest 0) (sym (append-nil before));
-                    count = work.count;
-                  },
+                  whole-work state.count before _ knows.2.3 work.count,
                   refl,
                   (knows.2.3, front-some before older knows.2.3 others, refl, tt),
                 ))
@@ -273,48 +259,28 @@ dropped-step needs places row standing state me here s seen older same mine rang
 -- the exchange fails: another word stands there, and the holder looks for itself again from that
 looks-again : (needs : Needs) (places : ℕ) (row : ℕ → ℕ) (standing : ℕ → Place) (state : AbstractState) (me : ℕ) → me < places
     → (s : Invariant needs places row standing state) → (seen : Word) (older : ℕ) → (standing me).stage ≡ DropTail seen older
-    → row 0 == word_number count_bits seen ≡ false → IsLeaving (standing me).registration (standing me).back → s.owed me ≡ []
-    → IsHolding needs (line_of row) me state.count state.line s.cut (DropTail seen older)
+    → row 0 == word_number count_bits seen ≡ false → s.holder ≡ me + 1 → IsAtStage needs places row standing state me s (DropTail seen older)
     → StepRefines needs places row standing state me (DropTail seen older)
-looks-again needs places row standing state me here s seen older at differs leaves nothing knows =
+looks-again needs places row standing state me here s seen older at differs mine known =
+    let knows = known.holding mine in
     let next : Place = record (standing me) { stage = LookLoad (main_of row) (main_of row).tail 0 no_line } in
     let some : is_empty state.line ≡ false = holding-some needs (line_of row) me state.count state.line s.cut (DropTail seen older) knows in
-    record {
-      events = [];
-      last = state;
-      run = refl;
-      names = rw differs refl;
-      inside = omega arith;
-      stands = rw differs (loaded needs places row (updated standing me next) state 0
-          (moved needs places row standing state me s next (λ out. absurd (omega (arith, out, here))) refl (count-small (row 0)) leaves (λ gives. absurd (cc)) tt nothing (ap is_holder (sym at))
-          (λ is. (
-            record {
-              front = state.line;
-              behind = [];
-              joined = [];
-              parts = sym (append-nil state.line);
-              tail = s.main.tail ∙ ap (newest 0) (sym (append-nil state.line));
-              count = omega (arith, s.main.count);
-            },
-            knows.1,
-            (s.main.tail, some, refl, tt),
-            (refl, refl),
-            λ none. absurd (cc),
-          ))));
-    }
+    silent (rw differs refl) (omega arith) (rw differs (loaded needs places row (updated standing me next) state 0
+    (moved needs places row standing state me s next (λ out. absurd (omega (arith, out, here))) refl (count-small (row 0)) known.alone.0 (λ gives. absurd (cc)) tt known.showing (ap is_holder (sym at))
+    (λ is. (
+      whole-work state.count state.line _ s.main.tail (omega (arith, s.main.count)),
+      knows.1,
+      (s.main.tail, some, refl, tt),
+      (refl, refl),
+      λ none. absurd (cc),
+    )))))
 
 -- Where no waiter is behind the holder, the tail is the place before it
-pub step-DropTail : (needs : Needs) → AreNeeds needs → needs.top < 2 ^ count_bits → (places : ℕ) (row : ℕ → ℕ) (standing : ℕ → Place) (state : AbstractState) (me : ℕ)
-    → places < 65536 → me < places → (s : Invariant needs places row standing state)
-    → (seen : Word) (older : ℕ) → (standing me).stage ≡ DropTail seen older
-    → StepRefines needs places row standing state me (DropTail seen older)
-step-DropTail needs lawful wide places row standing state me room here s seen older at =
-    let mine : s.holder ≡ me + 1 = flag-held needs places row standing state me s (ap is_holder at) in
-    let knows = flag-knows needs places row standing state me s (DropTail seen older) at refl in
-    let ranged = subst (λ (stage : Stage). IsRanged needs stage) at (s.stages.ranged me) in
-    let alone = subst (λ (stage : Stage). IsLocallyTrue needs (standing me).registration (standing me).back stage) at (s.stages.alone me) in
-    let nothing = subst (λ (stage : Stage). IsShowing (s.owed me) (s.answer_value me) stage) at (s.stages.showing me) in
+pub step-DropTail : (seen : Word) (older : ℕ) → IsOwnStep (DropTail seen older)
+step-DropTail seen older needs lawful wide places row standing state me room here s at =
+    let known = at-stage needs places row standing state me s _ at in
+    let mine = known.mine refl in
     elim (cases_Bool (row 0 == word_number count_bits seen)) [
-      | inl same ↦ dropped-step needs places row standing state me here s seen older same mine ranged alone nothing knows
-      | inr differs ↦ looks-again needs places row standing state me here s seen older at differs alone.0 nothing knows
+      | inl same ↦ dropped-step needs places row standing state me here s seen older same mine known
+      | inr differs ↦ looks-again needs places row standing state me here s seen older at differs mine known
     ]

@@ -1,99 +1,66 @@
 -- The holder of the flag walks the line, from the tail that it saw to the oldest and from there on: each step keeps how words, places
 -- and the abstract state stand together.
-use Rattle.std.proofs.Common.{◌^◌, ◌≡◌, ℕ, ◌+◌, ◌<◌, pred, true, false, List, [], ◌∷◌, ◌++◌, ◌==◌, refl, sym, ap, subst, ◌∙◌, arith, inl, inr, append_assoc}
+use Rattle.std.proofs.Common.{◌≡◌, ℕ, ◌+◌, ◌<◌, pred, true, false, List, [], ◌∷◌, ◌++◌, ◌==◌, refl, sym, ap, subst, ◌∙◌, arith, inl, inr, append_assoc}
 use Rattle.std.proofs.lemmas.Bool.{cases_Bool}
 use Rattle.saa_core_spec.proofs.Counts.{same_number}
 use Rattle.saa_core_words.specs.declared.word.Word.{Word}
 use Rattle.saa_core_words.specs.declared.line_word.LineWord.{LineWord}
-use Rattle.saa_core_words.specs.Words.{count_bits, line_number, line_word_of}
+use Rattle.saa_core_words.specs.Words.{line_number, line_word_of}
 use Rattle.saa_word_steps.specs.declared.place.Place.{Place}
 use Rattle.saa_word_steps.specs.declared.place.Stage.TheVariants.{BackLoad, BackStore, Forward, CutToClose, Close, Empty}
-use Rattle.saa_word_steps.specs.Needs.{Needs, AreNeeds, fits_count}
-use Rattle.saa_word_steps.specs.AbstractState.{AbstractState, IsSettledAt, takes_of, is_empty}
+use Rattle.saa_word_steps.specs.Needs.{Needs, fits_count}
+use Rattle.saa_word_steps.specs.AbstractState.{IsSettledAt, takes_of, is_empty}
 use Rattle.saa_word_steps.specs.Steps.{IsRanged, IsRangedNext, next_of}
 use Rattle.saa_word_steps.proofs.Ranges.{next-ranged}
-use Rattle.saa_word_proofs.specs.Refinement.{newest, is_holder, IsLocallyTrue, IsShowing, Work, IsAdded, IsAt, Invariant}
+use Rattle.saa_word_proofs.specs.Refinement.{newest, is_holder, Work, IsAdded, IsAt}
 use Rattle.saa_word_proofs.specs.Rows.{line_of, updated}
-use Rattle.saa_word_proofs.specs.StepRefinement.{place_after, StepRefines}
-use Rattle.saa_word_proofs.proofs.RefinementLemmas.Lists.{newest-empty, empty-nil, front-append, takes-append}
+use Rattle.saa_word_proofs.specs.StepRefinement.{place_after}
+use Rattle.saa_word_proofs.proofs.RefinementLemmas.Lists.{front-append, takes-append, front-none, front-some}
 use Rattle.saa_word_proofs.proofs.RefinementLemmas.Frames.{newest-stands, oldest-stands, work-front, work-behind}
-use Rattle.saa_word_proofs.proofs.RefinementLemmas.Rows.{apart-at, moved, loaded}
+use Rattle.saa_word_proofs.proofs.RefinementLemmas.Rows.{IsStep, at-stage, moved, loaded}
 use Rattle.saa_word_proofs.proofs.RefinementLemmas.Storing.{IsStored, stored}
-use Rattle.saa_word_proofs.proofs.RefinementLemmas.Linking.{flag-held, flag-knows, apart-by, in-line, relinked, IsLooked, looked, linked-all, tail-room}
+use Rattle.saa_word_proofs.proofs.RefinementLemmas.Linking.{apart-by, in-line, relinked, IsLooked, looked, linked-all, tail-room}
+use Rattle.saa_word_proofs.proofs.RefinementLemmas.Outcomes.{silent}
 
 -- The line word of the last of the front is loaded, before it is linked to those behind it
-pub step-BackLoad : (needs : Needs) → AreNeeds needs → needs.top < 2 ^ count_bits → (places : ℕ) (row : ℕ → ℕ) (standing : ℕ → Place) (state : AbstractState) (me : ℕ)
-    → places < 65536 → (s : Invariant needs places row standing state)
-    → (seen : Word) (current newer : ℕ) → (standing me).stage ≡ BackLoad seen current newer
-    → StepRefines needs places row standing state me (BackLoad seen current newer)
-step-BackLoad needs lawful wide places row standing state me room s seen current newer at =
-    let knows = flag-knows needs places row standing state me s (BackLoad seen current newer) at refl in
+pub step-BackLoad : (seen : Word) (current newer : ℕ) → IsStep (BackLoad seen current newer)
+step-BackLoad seen current newer needs lawful wide places row standing state me room s at =
+    let known = at-stage needs places row standing state me s _ at in
+    let knows = known.holding (known.mine refl) in
     let there = newest-stands knows.0.front current knows.2.1 knows.2.0 in
     let seat = in-line places standing state (pred current) s.seats (work-front state.count state.line seen knows.0 (pred current) there.0) in
     let next : Place = record (standing me) { stage = BackStore seen current newer (line_word_of (row current)) } in
-    record {
-      events = [];
-      last = state;
-      run = refl;
-      names = refl;
-      inside = omega (arith, there.1, seat.0);
-      stands = loaded needs places row (updated standing me next) state current
-          (moved needs places row standing state me s next (λ out. refl) refl
-          (subst (λ stage. IsRanged needs stage) at (s.stages.ranged me))
-          (subst (λ stage. IsLocallyTrue needs (standing me).registration (standing me).back stage) at (s.stages.alone me))
-          (apart-at needs places row standing state me s (BackLoad seen current newer) at) tt
-          (subst (λ stage. IsShowing (s.owed me) (s.answer_value me) stage) at (s.stages.showing me)) (ap is_holder (sym at))
-          (λ is. (knows.0, knows.1, knows.2, ap (λ (n : ℕ). line_word_of (row n)) there.1)));
-    }
+    silent refl (omega (arith, there.1, seat.0)) (loaded needs places row (updated standing me next) state current
+    (moved needs places row standing state me s next (λ out. refl) refl
+    known.ranged known.alone known.apart tt known.showing (ap is_holder (sym at))
+    (λ is. (knows.0, knows.1, knows.2, ap (λ (n : ℕ). line_word_of (row n)) there.1))))
 
 -- It is written with the link to the one behind it; the walk goes on to the one before, or turns at the oldest
-pub step-BackStore : (needs : Needs) → AreNeeds needs → needs.top < 2 ^ count_bits → (places : ℕ) (row : ℕ → ℕ) (standing : ℕ → Place) (state : AbstractState) (me : ℕ)
-    → places < 65536 → (s : Invariant needs places row standing state)
-    → (seen : Word) (current newer : ℕ) (line : LineWord) → (standing me).stage ≡ BackStore seen current newer line
-    → StepRefines needs places row standing state me (BackStore seen current newer line)
-step-BackStore needs lawful wide places row standing state me room s seen current newer line at =
-    let knows = flag-knows needs places row standing state me s (BackStore seen current newer line) at refl in
-    let flag = flag-held needs places row standing state me s (ap is_holder at) in
+pub step-BackStore : (seen : Word) (current newer : ℕ) (line : LineWord) → IsStep (BackStore seen current newer line)
+step-BackStore seen current newer line needs lawful wide places row standing state me room s at =
+    let known = at-stage needs places row standing state me s _ at in
+    let knows = known.holding (known.mine refl) in
+    let flag = known.mine refl in
     let store : IsStored places row state s.cut s.uncut seen current newer line knows.0 =
     stored needs places row standing state s seen current newer line knows.0 room knows.1 knows.2 knows.3 in
     let work : Work state.count state.line seen = store.walk.work in
     let number : ℕ = line_number (record line { newer = newer }) in
-    let ranged = subst (λ stage. IsRanged needs stage) at (s.stages.ranged me) in
-    let alone = subst (λ stage. IsLocallyTrue needs (standing me).registration (standing me).back stage) at (s.stages.alone me) in
-    let apart = apart-at needs places row standing state me s (BackStore seen current newer line) at in
-    let showing = subst (λ stage. IsShowing (s.owed me) (s.answer_value me) stage) at (s.stages.showing me) in
-    record {
-      events = [];
-      last = state;
-      run = refl;
-      names = refl;
-      inside = omega (arith, store.link, store.inside);
-      stands =
-          elim (cases_Bool (line.older == 0)) [
-            | inl none ↦
-                let nobody : work.front ≡ [] =
-                empty-nil work.front (sym (newest-empty work.front) ∙ ap (λ (n : ℕ). n == 0) (sym store.walk.before) ∙ none) in
-                rw none
-                (subst (λ (link : ℕ).
-                Invariant needs places (updated row link number) (updated standing me (record (standing me) { stage = Forward seen current seen.count })) state)
-                (sym store.link)
-                (relinked needs places row standing state me s (Forward seen current seen.count) (pred current) number s.cut s.uncut (λ out. refl) flag store.waits
-                store.linked
-                (ranged, ranged) alone apart tt showing refl
-                (work, knows.1, subst (λ l. IsAdded needs seen l seen.count) (sym nobody) (tt, omega arith), store.walk.behind)))
-            | inr some ↦
-                let somebody : is_empty work.front ≡ false =
-                sym (newest-empty work.front) ∙ ap (λ (n : ℕ). n == 0) (sym store.walk.before) ∙ some in
-                rw some
-                (subst (λ (link : ℕ).
-                Invariant needs places (updated row link number) (updated standing me (record (standing me) { stage = BackLoad seen line.older current })) state)
-                (sym store.link)
-                (relinked needs places row standing state me s (BackLoad seen line.older current) (pred current) number s.cut s.uncut (λ out. refl) flag store.waits
-                store.linked
-                ranged alone apart tt showing refl
-                (work, knows.1, (store.walk.before, somebody, store.walk.behind.0, store.walk.behind.2))))
-          ];
-    }
+    silent refl (omega (arith, store.link, store.inside)) (elim (cases_Bool (line.older == 0)) [
+      | inl none ↦
+          let nobody : work.front ≡ [] = front-none work.front _ store.walk.before none in
+          rw none
+          (relinked needs places row standing state me s (Forward seen current seen.count) current (pred current) number s.cut s.uncut store.link (λ out. refl) flag
+          store.waits store.linked
+          (known.ranged, known.ranged) known.alone known.apart tt known.showing refl
+          (work, knows.1, subst (λ l. IsAdded needs seen l seen.count) (sym nobody) (tt, omega arith), store.walk.behind))
+      | inr some ↦
+          let somebody : is_empty work.front ≡ false = front-some work.front _ store.walk.before some in
+          rw some
+          (relinked needs places row standing state me s (BackLoad seen line.older current) current (pred current) number s.cut s.uncut store.link (λ out. refl) flag
+          store.waits store.linked
+          known.ranged known.alone known.apart tt known.showing refl
+          (work, knows.1, (store.walk.before, somebody, store.walk.behind.0, store.walk.behind.2)))
+    ])
 
 -- The holder passes the first of those behind the front: it fits behind them
 passed : (needs : Needs) (words : ℕ → LineWord) (held : ℕ) (line : List (ℕ × ℕ)) (seen : Word) (current count : ℕ) (work : Work held line seen)
@@ -130,12 +97,10 @@ passed needs words held line seen current count work added look fits differs =
     )
 
 -- A waiter that fits is passed; the line is emptied where all fit, and cut and closed at the first that does not
-pub step-Forward : (needs : Needs) → AreNeeds needs → needs.top < 2 ^ count_bits → (places : ℕ) (row : ℕ → ℕ) (standing : ℕ → Place) (state : AbstractState) (me : ℕ)
-    → places < 65536 → (s : Invariant needs places row standing state)
-    → (seen : Word) (current count : ℕ) → (standing me).stage ≡ Forward seen current count
-    → StepRefines needs places row standing state me (Forward seen current count)
-step-Forward needs lawful wide places row standing state me room s seen current count at =
-    let knows = flag-knows needs places row standing state me s (Forward seen current count) at refl in
+pub step-Forward : (seen : Word) (current count : ℕ) → IsStep (Forward seen current count)
+step-Forward seen current count needs lawful wide places row standing state me room s at =
+    let known = at-stage needs places row standing state me s _ at in
+    let knows = known.holding (known.mine refl) in
     let work : Work state.count state.line seen = knows.0 in
     let there = oldest-stands work.behind current knows.3.1 knows.3.0 in
     let seat = in-line places standing state (pred current) s.seats (work-behind state.count state.line seen work (pred current) there.0) in
@@ -148,75 +113,63 @@ step-Forward needs lawful wide places row standing state me room s seen current 
     let tail : seen.tail < 65536 = tail-room places standing state seen work s.seats room knows.3.1 in
     let ranged : IsRangedNext needs (next_of needs me (standing me) (Forward seen current count) (row current)) =
     next-ranged needs lawful wide me (standing me) (Forward seen current count) (row current) (s.stages.ranged me)
-    (subst (λ stage. IsRanged needs stage) at (s.stages.ranged me)) in
-    let alone = subst (λ stage. IsLocallyTrue needs (standing me).registration (standing me).back stage) at (s.stages.alone me) in
-    let apart = apart-at needs places row standing state me s (Forward seen current count) at in
-    let showing : s.owed me ≡ [] = subst (λ stage. IsShowing (s.owed me) (s.answer_value me) stage) at (s.stages.showing me) in
-    record {
-      events = [];
-      last = state;
-      run = refl;
-      names = refl;
-      inside = omega (arith, there.1, seat.0);
-      stands =
-          loaded needs places row
-          (updated standing me (place_after (standing me) (next_of needs me (standing me) (Forward seen current count) (row current)))) state current
-          (elim (cases_Bool (fits_count needs count found.request)) [
-            | inl fits ↦
-                let fits_there : fits_count needs count (line_of row (pred current)).request ≡ true =
-                ap (λ (w : LineWord). fits_count needs count w.request) (sym is) ∙ fits in
-                elim (cases_Bool (current == seen.tail)) [
-                  | inl last ↦
-                      let range : IsRanged needs (Empty seen current (count + needs.takes found.request) found) = rw (fits, last) at ranged in
-                      rw (fits, last)
-                      (moved needs places row standing state me s (record (standing me) { stage = Empty seen current (count + needs.takes found.request) found })
-                      (λ out. refl) refl range (tail, alone) apart tt showing (ap is_holder (sym at))
-                      (λ holder. (
-                        work,
-                        knows.1,
-                        knows.2.0,
-                        knows.3,
-                        is,
-                        sym (same_number current seen.tail last),
-                        ap (λ (n : ℕ). fits_count needs n found.request) (sym knows.2.1) ∙ fits,
-                        ap (λ (n : ℕ). n + needs.takes found.request) knows.2.1,
-                      )))
-                  | inr differs ↦
-                      let range : IsRanged needs (Forward seen found.newer (count + needs.takes found.request)) = rw (fits, differs) at ranged in
-                      let after = passed needs (line_of row) state.count state.line seen current count work knows.2 look fits_there differs in
-                      rw (fits, differs)
-                      (moved needs places row standing state me s (record (standing me) { stage = Forward seen found.newer (count + needs.takes found.request) })
-                      (λ out. refl) refl range alone apart tt showing (ap is_holder (sym at))
-                      (λ holder. (
-                        after.0,
-                        knows.1,
-                        subst (λ (w : LineWord). IsAdded needs seen after.0.front (count + needs.takes w.request)) (sym is) after.1,
-                        subst (λ (w : LineWord). IsAt (line_of row) after.0.behind w.newer) (sym is) after.2,
-                      )))
-                ]
-            | inr unfit ↦
-                elim (cases_Bool (found.older == 0)) [
-                  | inl none ↦
-                      let range : IsRanged needs (Close seen count 0) = rw (unfit, none) at ranged in
-                      let nobody : work.front ≡ [] =
-                      empty-nil work.front (sym (newest-empty work.front) ∙ ap (λ (n : ℕ). n == 0) (sym older) ∙ none) in
-                      rw (unfit, none)
-                      (moved needs places row standing state me s (record (standing me) { stage = Close seen count 0 })
-                      (λ out. refl) refl range (tail, alone) apart tt showing (ap is_holder (sym at))
-                      (λ holder. (
-                        work,
-                        knows.1 ∙ sym nobody,
-                        knows.2,
-                        sym (ap (newest 0) nobody),
-                        knows.3.1,
-                        subst (λ l. IsSettledAt needs count l) (sym look.behind) (ap (λ (n : ℕ). fits_count needs count n) (sym request) ∙ unfit),
-                      )))
-                  | inr some ↦
-                      let range : IsRanged needs (CutToClose seen current count found) = rw (unfit, some) at ranged in
-                      rw (unfit, some)
-                      (moved needs places row standing state me s (record (standing me) { stage = CutToClose seen current count found })
-                      (λ out. refl) refl range alone apart tt showing (ap is_holder (sym at))
-                      (λ holder. (work, knows.1, knows.2, knows.3, is, unfit)))
-                ]
-          ]);
-    }
+    known.ranged in
+    silent refl (omega (arith, there.1, seat.0)) (loaded needs places row
+    (updated standing me (place_after (standing me) (next_of needs me (standing me) (Forward seen current count) (row current)))) state current
+    (elim (cases_Bool (fits_count needs count found.request)) [
+      | inl fits ↦
+          let fits_there : fits_count needs count (line_of row (pred current)).request ≡ true =
+          ap (λ (w : LineWord). fits_count needs count w.request) (sym is) ∙ fits in
+          elim (cases_Bool (current == seen.tail)) [
+            | inl last ↦
+                let range : IsRanged needs (Empty seen current (count + needs.takes found.request) found) = rw (fits, last) at ranged in
+                rw (fits, last)
+                (moved needs places row standing state me s (record (standing me) { stage = Empty seen current (count + needs.takes found.request) found })
+                (λ out. refl) refl range (tail, known.alone) known.apart tt known.showing (ap is_holder (sym at))
+                (λ holder. (
+                  work,
+                  knows.1,
+                  knows.2.0,
+                  knows.3,
+                  is,
+                  sym (same_number current seen.tail last),
+                  ap (λ (n : ℕ). fits_count needs n found.request) (sym knows.2.1) ∙ fits,
+                  ap (λ (n : ℕ). n + needs.takes found.request) knows.2.1,
+                )))
+            | inr differs ↦
+                let range : IsRanged needs (Forward seen found.newer (count + needs.takes found.request)) = rw (fits, differs) at ranged in
+                let after = passed needs (line_of row) state.count state.line seen current count work knows.2 look fits_there differs in
+                rw (fits, differs)
+                (moved needs places row standing state me s (record (standing me) { stage = Forward seen found.newer (count + needs.takes found.request) })
+                (λ out. refl) refl range known.alone known.apart tt known.showing (ap is_holder (sym at))
+                (λ holder. (
+                  after.0,
+                  knows.1,
+                  subst (λ (w : LineWord). IsAdded needs seen after.0.front (count + needs.takes w.request)) (sym is) after.1,
+                  subst (λ (w : LineWord). IsAt (line_of row) after.0.behind w.newer) (sym is) after.2,
+                )))
+          ]
+      | inr unfit ↦
+          elim (cases_Bool (found.older == 0)) [
+            | inl none ↦
+                let range : IsRanged needs (Close seen count 0) = rw (unfit, none) at ranged in
+                let nobody : work.front ≡ [] = front-none work.front _ older none in
+                rw (unfit, none)
+                (moved needs places row standing state me s (record (standing me) { stage = Close seen count 0 })
+                (λ out. refl) refl range (tail, known.alone) known.apart tt known.showing (ap is_holder (sym at))
+                (λ holder. (
+                  work,
+                  knows.1 ∙ sym nobody,
+                  knows.2,
+                  sym (ap (newest 0) nobody),
+                  knows.3.1,
+                  subst (λ l. IsSettledAt needs count l) (sym look.behind) (ap (λ (n : ℕ). fits_count needs count n) (sym request) ∙ unfit),
+                )))
+            | inr some ↦
+                let range : IsRanged needs (CutToClose seen current count found) = rw (unfit, some) at ranged in
+                rw (unfit, some)
+                (moved needs places row standing state me s (record (standing me) { stage = CutToClose seen current count found })
+                (λ out. refl) refl range known.alone known.apart tt known.showing (ap is_holder (sym at))
+                (λ holder. (work, knows.1, knows.2, knows.3, is, unfit)))
+          ]
+    ]))

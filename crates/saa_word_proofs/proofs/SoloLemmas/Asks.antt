@@ -1,35 +1,35 @@
 -- The sequential object beside a try and a registration.
-use Rattle.std.proofs.Common.{◌≡◌, ℕ, zero, suc, ◌+◌, ◌<◌, ◌≤◌, Bool, true, false, not, ◌&&◌, ◌||◌, List, [], ◌∷◌, ◌++◌, length, ◌==◌, nat_lt, nat_le, if◌then◌else◌, Option, Some, None, Ok, refl, sym, ap, ◌∙◌, arith, inl, inr}
-use Rattle.std.proofs.lemmas.Bool.{cases_Bool}
+use Rattle.std.proofs.Common.{◌≡◌, ℕ, zero, suc, ◌+◌, ◌<◌, ◌≤◌, Bool, true, false, not, ◌&&◌, ◌||◌, List, [], ◌∷◌, ◌++◌, length, ◌==◌, nat_lt, if◌then◌else◌, Option, Some, None, Result, Ok, refl, sym, ap, ◌∙◌, arith}
 use Rattle.std.proofs.lemmas.Bool.Decides.{nat_tests}
-use Rattle.saa_core_spec.specs.declared.request.Request.{Request}
-use Rattle.saa_core_spec.specs.Held.{Held, OfLock, Poisoned, fits, plus, asks_too_much}
-use Rattle.saa_core_spec.specs.Lock.{is_poisoned, try_answer}
+use Rattle.std.proofs.Math.Bool.{and-false}
+use Rattle.saa_core_spec.specs.declared.lock.Mode.{Mode}
+use Rattle.saa_core_spec.specs.declared.lock.Mode.TheVariants.{Exclusive, Shared, WaitExclusive, WaitShared}
+use Rattle.saa_core_spec.specs.declared.request.Full.{Full}
+use Rattle.saa_core_spec.specs.Held.{Held, fits, plus, asks_too_much}
+use Rattle.saa_core_spec.specs.Lock.{is_poisoned, mode_request, try_answer}
 use Rattle.saa_core_spec.specs.Object.{Object, After, Entry, Idle, Waiting, Answered, Waiter, entry_at, with_entry, one_if, holds_slot, slots_in, used, is_nobody}
-use Rattle.saa_core_spec.specs.Asking.{is_idle, is_granted_at_once, tried, granted_at_once, answer_at_once, answer_in as answer_when, joined, registered_of}
-use Rattle.saa_core_spec.proofs.Counts.{one_if-le}
+use Rattle.saa_core_spec.specs.Asking.{is_idle, is_granted_at_once, tried, granted_at_once, answer_at_once, answer_in as answer_when, joined, registered, registered_of}
+use Rattle.saa_core_spec.proofs.Counts.{one_if-le, same_number}
+use Rattle.saa_core_words.specs.Words.{mode_of}
 use Rattle.saa_word_steps.specs.declared.rules.Rules.{Rules}
 use Rattle.saa_word_steps.specs.declared.rules.Rules.TheVariants.{Permits, Modes}
-use Rattle.saa_word_steps.specs.declared.place.Ask.{Ask}
-use Rattle.saa_word_steps.specs.declared.place.Place.{Place}
 use Rattle.saa_word_steps.specs.declared.place.Registration.{Registration}
 use Rattle.saa_word_steps.specs.declared.place.Registration.TheVariants.{Idle as IsIdle, AnsweredAtOnce, Queued}
 use Rattle.saa_word_steps.specs.declared.call.Answer.{Answer}
 use Rattle.saa_word_steps.specs.declared.call.Answer.TheVariants.{Bool as Says, Tried}
-use Rattle.saa_word_steps.specs.declared.call.WordCall.{WordCall}
-use Rattle.saa_word_steps.specs.declared.call.WordCall.TheVariants.{Try, Register}
-use Rattle.saa_word_steps.specs.Needs.{Needs, fits_count, lock_at, needs_of}
+use Rattle.saa_word_steps.specs.Needs.{Needs, fits_count, needs_of}
+use Rattle.saa_word_steps.specs.declared.event.Event.{Event}
 use Rattle.saa_word_steps.specs.declared.event.Event.TheVariants.{Acquired, Refused, Joined, AskedPoisoned}
-use Rattle.saa_word_steps.specs.AbstractState.{AbstractState, IsEnabled, after_event, is_empty, must_wait}
-use Rattle.saa_word_steps.specs.Readings.{is_idle as is_free, is_taken, refusing_answer, tried_answer}
-use Rattle.saa_word_proofs.specs.Rows.{updated}
-use Rattle.saa_word_proofs.specs.Calls.{asked_by}
-use Rattle.saa_word_proofs.specs.Represents.{entry_of, held_at, waiters}
-use Rattle.saa_word_proofs.specs.Alone.{PlacesRepresent}
-use Rattle.saa_word_proofs.proofs.SoloLemmas.HeldAt.{plus-at, asks-at, answer-at, held-calm, held-poisoned, refusing-answers, refusing-unfit}
-use Rattle.saa_word_proofs.proofs.SoloLemmas.Fronts.{waiters-append}
-use Rattle.saa_word_proofs.proofs.SoloLemmas.Commands.{trying_says, tried_by, try-call, registered_by, register-call}
-use Rattle.saa_word_proofs.proofs.SoloLemmas.Mirroring.{Starts, Answers, answers-by, mirrors-held, mirrors-same, mirrors-set, idle-entry}
+use Rattle.saa_word_steps.specs.AbstractState.{IsEnabled, after_event, is_empty, must_wait}
+use Rattle.saa_word_steps.specs.Readings.{is_idle as is_free, mode_number, refusing_answer, tried_answer}
+use Rattle.saa_word_proofs.specs.Agrees.{Begins}
+use Rattle.saa_word_proofs.specs.Alone.{Configuration, PlacesAreQuiescent}
+use Rattle.saa_word_proofs.specs.Calls.{ask_named}
+use Rattle.saa_word_proofs.specs.Represents.{Represents, entry_of, held_at, registering_says, waiters}
+use Rattle.saa_word_proofs.proofs.SoloLemmas.Along.{Course}
+use Rattle.saa_word_proofs.proofs.SoloLemmas.Endings.{Ended, both-true, named-if, one-event}
+use Rattle.saa_word_proofs.proofs.SoloLemmas.HeldAt.{waiters-append, plus-at, asks-at, answer-at, held-calm, held-poisoned, is-poisoned, refusing-answers, refusing-unfit}
+use Rattle.saa_word_proofs.proofs.SoloLemmas.Mirroring.{entry-is, new-entry, same, same-entries, quiescent, with_registration}
 
 -- Grants at once
 
@@ -37,160 +37,136 @@ nobody-waits : (needs : Needs) (line : List (ℕ × ℕ)) → is_nobody (waiters
 nobody-waits needs [] = refl
 nobody-waits needs (asker ∷ rest) = refl
 
--- whether an ask is granted at once
-granted-test : (needs : Needs) (places : ℕ) (standing : ℕ → Place) (state : AbstractState) (s : Object) (request : ℕ) → PlacesRepresent needs places standing state s
-    → state.poisoned ≡ false → is_granted_at_once s (needs.read request) ≡ not (must_wait needs state request)
-granted-test needs places standing state s request m calm =
-    let nobody : is_nobody s.line ≡ is_empty state.line = ap is_nobody m.line ∙ nobody-waits needs state.line in
-    let fitting : fits s.held (needs.read request) ≡ fits_count needs state.count request =
-    ap (λ (h : Held). fits h (needs.read request)) (m.held ∙ held-calm needs state calm) in
-    (λ i. nobody i && fitting i) ∙ either (is_empty state.line) (fits_count needs state.count request)
-  where
-    either : (nobody fitting : Bool) → (nobody && fitting) ≡ not (not nobody || not fitting)
-    either true true = refl
-    either true false = refl
-    either false fitting = refl
+module _ {rules : Rules} {places me : ℕ} {now : Configuration} {s : Object} (b : Begins rules places me now s) (request : ℕ) where
+  -- an ask is granted at once where it needn't wait
+  granted-test : b.state.poisoned ≡ false → is_granted_at_once s ((needs_of rules).read request) ≡ not (must_wait (needs_of rules) b.state request)
+  granted-test calm =
+      let needs : Needs = needs_of rules in
+      let nobody : is_nobody s.line ≡ is_empty b.state.line = ap is_nobody b.mirrors.line ∙ nobody-waits needs b.state.line in
+      let fitting : fits s.held (needs.read request) ≡ fits_count needs b.state.count request =
+      ap (λ (h : Held). fits h (needs.read request)) (b.mirrors.held ∙ held-calm needs b.state calm) in
+      (λ i. nobody i && fitting i) ∙ either (is_empty b.state.line) (fits_count needs b.state.count request)
+    where
+      either : (nobody fitting : Bool) → (nobody && fitting) ≡ not (not nobody || not fitting)
+      either true true = refl
+      either true false = refl
+      either false fitting = refl
 
--- what was got is granted, and what waits or is refused isn't
-got-test : (needs : Needs) (places me : ℕ) (standing : ℕ → Place) (state : AbstractState) (s : Object) (request : ℕ) → PlacesRepresent needs places standing state s
-    → IsEnabled needs state me (Acquired request) → is_granted_at_once s (needs.read request) ≡ true
-got-test needs places me standing state s request m allowed =
-    let free : must_wait needs state request ≡ false = rw (allowed.1, allowed.2) refl in
-    granted-test needs places standing state s request m allowed.0 ∙ ap not free
+  -- a poisoned lock grants nothing, nor does a shut semaphore
+  poisoned-test : b.state.poisoned ≡ true → is_granted_at_once s ((needs_of rules).read request) ≡ false
+  poisoned-test poisoned =
+      let unfit : fits s.held ((needs_of rules).read request) ≡ false =
+      ap (λ (h : Held). fits h ((needs_of rules).read request)) (b.mirrors.held ∙ held-poisoned (needs_of rules) b.state poisoned)
+      ∙ refusing-unfit (needs_of rules) b.state.count ((needs_of rules).read request) in
+      rw unfit (and-false (is_nobody s.line))
 
-waits-test : (needs : Needs) (places : ℕ) (standing : ℕ → Place) (state : AbstractState) (s : Object) (request : ℕ) → PlacesRepresent needs places standing state s
-    → state.poisoned ≡ false → must_wait needs state request ≡ true → is_granted_at_once s (needs.read request) ≡ false
-waits-test needs places standing state s request m calm waits = granted-test needs places standing state s request m calm ∙ ap not waits
+  -- what was acquired is granted, and adds up to what is held then
+  got-test : IsEnabled (needs_of rules) b.state me (Acquired request) → is_granted_at_once s ((needs_of rules).read request) ≡ true
+  got-test allowed =
+      let free : must_wait (needs_of rules) b.state request ≡ false = rw (allowed.1, allowed.2) refl in
+      granted-test allowed.0 ∙ ap not free
 
--- a poisoned lock grants nothing, nor does a shut semaphore
-poisoned-test : (needs : Needs) (places : ℕ) (standing : ℕ → Place) (state : AbstractState) (s : Object) (request : Request) → PlacesRepresent needs places standing state s
-    → state.poisoned ≡ true → is_granted_at_once s request ≡ false
-poisoned-test needs places standing state s request m poisoned =
-    let unfit : fits s.held request ≡ false =
-    ap (λ (h : Held). fits h request) (m.held ∙ held-poisoned needs state poisoned) ∙ refusing-unfit needs state.count request in
-    rw unfit (and-false (is_nobody s.line))
-  where
-    and-false : (b : Bool) → (b && false) ≡ false
-    and-false true = refl
-    and-false false = refl
-
--- what the object holds once something is got
-got-held : (rules : Rules) (places me : ℕ) (standing : ℕ → Place) (state : AbstractState) (s : Object) (request : ℕ) → PlacesRepresent (needs_of rules) places standing state s
-    → IsEnabled (needs_of rules) state me (Acquired request)
-    → plus s.held ((needs_of rules).read request) ≡ held_at (needs_of rules) (after_event (needs_of rules) state me (Acquired request))
-got-held rules places me standing state s request m allowed =
-    let needs : Needs = needs_of rules in
-    ap (λ (h : Held). plus h (needs.read request)) (m.held ∙ held-calm needs state allowed.0)
-    ∙ plus-at rules state.count request allowed.2
-    ∙ sym (held-calm needs (after_event needs state me (Acquired request)) allowed.0)
+  got-held : IsEnabled (needs_of rules) b.state me (Acquired request)
+      → plus s.held ((needs_of rules).read request) ≡ held_at (needs_of rules) (after_event (needs_of rules) b.state me (Acquired request))
+  got-held allowed =
+      let needs : Needs = needs_of rules in
+      ap (λ (h : Held). plus h (needs.read request)) (b.mirrors.held ∙ held-calm needs b.state allowed.0)
+      ∙ plus-at rules b.state.count request allowed.2
+      ∙ sym (held-calm needs (after_event needs b.state me (Acquired request)) allowed.0)
 
 -- Tries
 
--- what a try says that is refused, by whether the object is poisoned: only a lock says so
-poison-at : (rules : Rules) (state : AbstractState)
-    → trying_says (needs_of rules).is_lock false (is_poisoned (held_at (needs_of rules) state)) ≡ trying_says (needs_of rules).is_lock false state.poisoned
-poison-at (Permits bound) state = refl
-poison-at Modes state = ap (λ (b : Bool). trying_says true false b) (either state.poisoned)
+-- what a try answers that is granted or not, of a lock that is poisoned or not
+abbrev try_says : (is_lock is_granted is_poison : Bool) → Answer
+try_says false is_granted is_poison = Says is_granted
+try_says true is_granted is_poison = Tried (try_answer is_granted is_poison)
+
+abbrev pub tried_by : (is_lock : Bool) → Object → After Bool → After Answer
+tried_by is_lock s after = record { state = after.state; reply = try_says is_lock after.reply (is_poisoned s.held) }
+
+says-granted : (is_lock is_poison : Bool) → try_says is_lock true is_poison ≡ (if is_lock then Tried (try_answer true false) else Says true)
+says-granted true is_poison = refl
+says-granted false is_poison = refl
+
+says-refused : (is_lock is_poison : Bool) → try_says is_lock false is_poison ≡ (if is_lock then Tried (try_answer false is_poison) else Says false)
+says-refused true is_poison = refl
+says-refused false is_poison = refl
+
+-- a try that isn't granted changes nothing
+pub try-refused : {rules : Rules} {places me : ℕ} {now : Configuration} {s : Object} (b : Begins rules places me now s) (request : ℕ) (is_poison : Bool)
+    → b.state.poisoned ≡ is_poison → (is_poison ≡ false → must_wait (needs_of rules) b.state request ≡ true)
+    → (one : After Answer) × (tried_by (needs_of rules).is_lock s (tried s ((needs_of rules).read request)) ≡ one)
+    × Represents (needs_of rules) places (with_registration now.standing me (now.standing me).registration) b.state one.state
+    × (one.reply ≡ (if (needs_of rules).is_lock then Tried (try_answer false is_poison) else Says false))
+try-refused {rules} {s = s} b request is_poison is waits =
+    let needs : Needs = needs_of rules in
+    let nothing : tried s (needs.read request) ≡ record { state = s; reply = false } = rw (test is_poison is waits) refl in (
+      tried_by needs.is_lock s (record { state = s; reply = false }),
+      ap (tried_by needs.is_lock s) nothing,
+      same b,
+      poison-says rules is_poison (ap (λ (h : Held). is_poisoned h) b.mirrors.held) is,
+    )
   where
-    either : (poisoned : Bool) → is_poisoned (if poisoned then OfLock Poisoned else OfLock (lock_at state.count)) ≡ poisoned
-    either true = refl
-    either false =
-        elim (cases_Bool (state.count == 0)) [
-          | inl none ↦ rw none refl
-          | inr some ↦
-              elim (cases_Bool (state.count == 63)) [
-                | inl one ↦ rw (some, one) refl
-                | inr several ↦ rw (some, several) refl
-              ]
-        ]
+    test : (is_poison : Bool) → b.state.poisoned ≡ is_poison → (is_poison ≡ false → must_wait (needs_of rules) b.state request ≡ true)
+        → is_granted_at_once s ((needs_of rules).read request) ≡ false
+    test true is waits = poisoned-test b request is
+    test false is waits = granted-test b request is ∙ ap not (waits refl)
 
-says-got : (is_lock is_poison : Bool) → trying_says is_lock true is_poison ≡ (if is_lock then Tried (try_answer true false) else Says true)
-says-got true is_poison = refl
-says-got false is_poison = refl
+    poison-says : (rules : Rules) (is_poison : Bool) → is_poisoned s.held ≡ is_poisoned (held_at (needs_of rules) b.state) → b.state.poisoned ≡ is_poison
+        → try_says (needs_of rules).is_lock false (is_poisoned s.held) ≡ (if (needs_of rules).is_lock then Tried (try_answer false is_poison) else Says false)
+    poison-says (Permits bound) is_poison holds is = refl
+    poison-says Modes is_poison holds is = ap (λ (p : Bool). Tried (try_answer false p)) (holds ∙ is-poisoned b.state ∙ is)
 
-says-refused : (is_lock : Bool) → trying_says is_lock false false ≡ (if is_lock then Tried (try_answer false false) else Says false)
-says-refused true = refl
-says-refused false = refl
-
-says-poisoned : (is_lock : Bool) → trying_says is_lock false true ≡ (if is_lock then Tried (try_answer false true) else Says false)
-says-poisoned true = refl
-says-poisoned false = refl
-
-pub try-got : (rules : Rules) (places me : ℕ) (is_sync : Bool) (call : WordCall) (standing : ℕ → Place) (state : AbstractState) (s : Object) (ask : Ask) (place : Place)
-    → Starts (needs_of rules) places me standing state s → asked_by call ≡ Some ask → ask.joins ≡ false → is_taken (needs_of rules).is_lock call ≡ true
-    → IsEnabled (needs_of rules) state me (Acquired ask.request) → place.registration ≡ (standing me).registration
-    → Answers (needs_of rules) places me is_sync call (updated standing me place) s
-    (after_event (needs_of rules) state me (Acquired ask.request)) (tried_answer (needs_of rules) true)
-try-got rules places me is_sync call standing state s ask place h asks joins taken allowed same =
-    let needs : Needs = needs_of rules in
-    let m = h.mirrors in
-    let test : is_granted_at_once s (needs.read ask.request) ≡ true = got-test needs places me standing state s ask.request m allowed in
-    let got : tried s (needs.read ask.request) ≡ record { state = record s { held = plus s.held (needs.read ask.request) }; reply = true } = rw test refl in
-    answers-by needs places me is_sync call (updated standing me place) s (after_event needs state me (Acquired ask.request)) (tried_answer needs true)
-    (tried_by needs.is_lock s (record { state = record s { held = plus s.held (needs.read ask.request) }; reply = true }))
-    (try-call rules me is_sync call s ask asks joins taken ∙ ap (λ (a : After Bool). tried_by needs.is_lock s a) got)
-    (mirrors-held needs places standing state (after_event needs state me (Acquired ask.request)) s (plus s.held (needs.read ask.request)) s.line me place m
-    (got-held rules places me standing state s ask.request m allowed) m.line refl same)
-    (says-got needs.is_lock (is_poisoned s.held))
-
--- a try that changes nothing
-tried-nothing : (rules : Rules) (places me : ℕ) (is_sync : Bool) (call : WordCall) (standing : ℕ → Place) (state : AbstractState) (s : Object) (ask : Ask) (place : Place) (answer : Answer)
-    → Starts (needs_of rules) places me standing state s → asked_by call ≡ Some ask → ask.joins ≡ false → is_taken (needs_of rules).is_lock call ≡ true
-    → is_granted_at_once s ((needs_of rules).read ask.request) ≡ false → place.registration ≡ (standing me).registration
-    → trying_says (needs_of rules).is_lock false state.poisoned ≡ answer
-    → Answers (needs_of rules) places me is_sync call (updated standing me place) s state answer
-tried-nothing rules places me is_sync call standing state s ask place answer h asks joins taken test same says =
-    let needs : Needs = needs_of rules in
-    let m = h.mirrors in
-    let nothing : tried s (needs.read ask.request) ≡ record { state = s; reply = false } = rw test refl in
-    answers-by needs places me is_sync call (updated standing me place) s state answer (tried_by needs.is_lock s (record { state = s; reply = false }))
-    (try-call rules me is_sync call s ask asks joins taken ∙ ap (λ (a : After Bool). tried_by needs.is_lock s a) nothing)
-    (mirrors-same needs places standing state s me place m same)
-    (ap (λ (t : Held). trying_says needs.is_lock false (is_poisoned t)) m.held ∙ poison-at rules state ∙ says)
-
-pub try-refused : (rules : Rules) (places me : ℕ) (is_sync : Bool) (call : WordCall) (standing : ℕ → Place) (state : AbstractState) (s : Object) (ask : Ask) (place : Place)
-    → Starts (needs_of rules) places me standing state s → asked_by call ≡ Some ask → ask.joins ≡ false → is_taken (needs_of rules).is_lock call ≡ true
-    → IsEnabled (needs_of rules) state me (Refused ask.request) → place.registration ≡ (standing me).registration
-    → Answers (needs_of rules) places me is_sync call (updated standing me place) s state (tried_answer (needs_of rules) false)
-try-refused rules places me is_sync call standing state s ask place h asks joins taken allowed same =
-    let needs : Needs = needs_of rules in
-    tried-nothing rules places me is_sync call standing state s ask place (tried_answer needs false) h asks joins taken
-    (waits-test needs places standing state s ask.request h.mirrors allowed.0 allowed.1) same
-    (ap (λ (b : Bool). trying_says needs.is_lock false b) allowed.0 ∙ says-refused needs.is_lock)
-
-pub try-poisoned : (rules : Rules) (places me : ℕ) (is_sync : Bool) (call : WordCall) (standing : ℕ → Place) (state : AbstractState) (s : Object) (ask : Ask) (place : Place)
-    → Starts (needs_of rules) places me standing state s → asked_by call ≡ Some ask → ask.joins ≡ false → is_taken (needs_of rules).is_lock call ≡ true
-    → IsEnabled (needs_of rules) state me AskedPoisoned → place.registration ≡ (standing me).registration
-    → Answers (needs_of rules) places me is_sync call (updated standing me place) s state (refusing_answer (needs_of rules))
-try-poisoned rules places me is_sync call standing state s ask place h asks joins taken allowed same =
-    let needs : Needs = needs_of rules in
-    tried-nothing rules places me is_sync call standing state s ask place (refusing_answer needs) h asks joins taken
-    (poisoned-test needs places standing state s (needs.read ask.request) h.mirrors allowed) same
-    (ap (λ (b : Bool). trying_says needs.is_lock false b) allowed ∙ says-poisoned needs.is_lock)
-
--- a try of more than there is never fits
-pub try-large : (rules : Rules) (places me : ℕ) (is_sync : Bool) (count : ℕ) (standing : ℕ → Place) (state : AbstractState) (s : Object) (place : Place)
-    → Starts (needs_of rules) places me standing state s → is_taken (needs_of rules).is_lock (Try count) ≡ true
-    → nat_lt (needs_of rules).top count ≡ true → place.registration ≡ (standing me).registration
-    → Answers (needs_of rules) places me is_sync (Try count) (updated standing me place) s state (Says false)
-try-large (Permits bound) places me is_sync count standing state s place h taken large same =
-    let needs : Needs = needs_of (Permits bound) in
-    let unfit : nat_le (state.count + count) bound ≡ false = grind (arith, nat_tests) in
-    elim (cases_Bool state.poisoned) [
-      | inl poisoned ↦
-          tried-nothing (Permits bound) places me is_sync (Try count) standing state s (record { request = count; joins = false }) place (Says false) h
-          refl refl refl (poisoned-test needs places standing state s (needs.read count) h.mirrors poisoned) same refl
-      | inr calm ↦
-          try-refused (Permits bound) places me is_sync (Try count) standing state s (record { request = count; joins = false }) place h refl refl refl
-          (calm, rw unfit (or-true (not (is_empty state.line)))) same
-    ]
-  where
-    or-true : (b : Bool) → (b || true) ≡ true
-    or-true true = refl
-    or-true false = refl
-try-large Modes places me is_sync count standing state s place h taken large same = absurd (cc)
+module _ {rules : Rules} {places me : ℕ} {now : Configuration} {s : Object} (b : Begins rules places me now s) (request : ℕ) {last : Configuration}
+    (c : Course (needs_of rules) places me (Some (record { request = request; joins = false })) (now.standing me).registration b.state now.standing last)
+    (over : PlacesAreQuiescent last.standing) where
+  pub end-try : (answer : Answer) (event : Event) → c.names ≡ event ∷ [] → ask_named (needs_of rules) (record { request = request; joins = false }) event ≡ Some answer
+      → Ended b c over (tried_by (needs_of rules).is_lock s (tried s ((needs_of rules).read request))) answer
+  end-try answer (Acquired asked) names says =
+      let needs : Needs = needs_of rules in
+      let both = named-if (asked == request) (tried_answer needs true) answer says in
+      let got : After Bool = record { state = record s { held = plus s.held (needs.read request) }; reply = true } in
+      one-event b c over (tried_by needs.is_lock s (tried s (needs.read request))) answer (Acquired request)
+      (names ∙ ap (λ (n : ℕ). Acquired n ∷ []) (same_number asked request both.0)) (quiescent b).closed (quiescent b).paid
+      (λ allowed.
+      let grants : tried s (needs.read request) ≡ got = rw (got-test b request allowed) refl in (
+        tried_by needs.is_lock s got,
+        ap (tried_by needs.is_lock s) grants,
+        same-entries b (after_event needs b.state me (Acquired request)) got.state.held s.line (got-held b request allowed) b.mirrors.line refl,
+        says-granted needs.is_lock (is_poisoned s.held) ∙ both.1,
+      ))
+  end-try answer (Refused asked) names says =
+      let needs : Needs = needs_of rules in
+      let both = named-if ((asked == request) && true) (tried_answer needs false) answer says in
+      one-event b c over (tried_by needs.is_lock s (tried s (needs.read request))) answer (Refused request)
+      (names ∙ ap (λ (n : ℕ). Refused n ∷ []) (same_number asked request (both-true (asked == request) true both.0).0)) (quiescent b).closed (quiescent b).paid
+      (λ allowed.
+      let refused = try-refused b request false allowed.0 (λ calm. allowed.1) in
+      (refused.0, refused.1, refused.2, refused.3 ∙ both.1))
+  end-try answer AskedPoisoned names says =
+      let needs : Needs = needs_of rules in
+      one-event b c over (tried_by needs.is_lock s (tried s (needs.read request))) answer AskedPoisoned names (quiescent b).closed (quiescent b).paid
+      (λ poisoned.
+      let refused = try-refused b request true poisoned (λ calm. absurd (cc)) in
+      let said : refusing_answer needs ≡ answer = cc in
+      (refused.0, refused.1, refused.2, refused.3 ∙ said))
+  end-try answer (Joined asked) names says =
+      let both = named-if ((asked == request) && false) (Says true) answer says in
+      let wrong : false ≡ true = (both-true (asked == request) false both.0).1 in absurd (cc)
+  end-try answer _ names says = absurd (cc)
 
 -- Registrations
+
+-- what a registration answers
+abbrev pub registered_by : After (Result Bool Full) → After Answer
+registered_by after = record { state = after.state; reply = registering_says after.reply }
+
+-- the number of a mode reads as its request
+pub mode-read : (mode : Mode) → mode_of (mode_number mode) ≡ mode_request mode
+mode-read Exclusive = refl
+mode-read Shared = refl
+mode-read WaitExclusive = refl
+mode-read WaitShared = refl
 
 -- a place that is no slot leaves room
 slots-le : (book : List Entry) → slots_in book ≤ length book
@@ -202,167 +178,100 @@ slots-room [] place within free = absurd (omega (arith, within))
 slots-room (entry ∷ book) zero within free = omega (arith, slots-le book, ap one_if free)
 slots-room (entry ∷ book) (suc place) within free = omega (arith, slots-room book place (omega (arith, within)) free, one_if-le (holds_slot entry))
 
--- there is room for a place that is idle
-room-test : (needs : Needs) (places me : ℕ) (standing : ℕ → Place) (state : AbstractState) (s : Object) → PlacesRepresent needs places standing state s → me < places
-    → entry_at s.book me ≡ Idle → used s == s.room ≡ false
-room-test needs places me standing state s m here idle =
-    let less : slots_in s.book < length s.book = slots-room s.book me (rw m.names here) (ap holds_slot idle) in
-    let below : used s < s.room = omega (arith, less, m.names, m.room, m.alone) in
-    grind (arith, nat_tests)
-
--- what speaks against a registration
-refused-test : (rules : Rules) (places me : ℕ) (standing : ℕ → Place) (state : AbstractState) (s : Object) (request : ℕ) → Starts (needs_of rules) places me standing state s
-    → (not (is_idle (entry_at s.book me)) || asks_too_much s.held ((needs_of rules).read request))
-    ≡ (not (is_idle (entry_at s.book me)) || (not (needs_of rules).is_lock && nat_lt (needs_of rules).top request))
-refused-test rules places me standing state s request h =
-    let needs : Needs = needs_of rules in
-    ap (λ (b : Bool). not (is_idle (entry_at s.book me)) || b)
-    (ap (λ (t : Held). asks_too_much t (needs.read request)) h.mirrors.held
-    ∙ asks-at rules state request)
-
--- nothing does where the place is idle, and asks for no more than there is
-free-test : (rules : Rules) (places me : ℕ) (standing : ℕ → Place) (state : AbstractState) (s : Object) (request : ℕ) → Starts (needs_of rules) places me standing state s
-    → entry_at s.book me ≡ Idle → ((needs_of rules).is_lock ≡ false → nat_lt (needs_of rules).top request ≡ false)
-    → (not (is_idle (entry_at s.book me)) || asks_too_much s.held ((needs_of rules).read request)) ≡ false
-free-test rules places me standing state s request h idle small =
-    let needs : Needs = needs_of rules in
-    refused-test rules places me standing state s request h
-    ∙ ap (λ (e : Entry). not (is_idle e) || (not needs.is_lock && nat_lt needs.top request)) idle
-    ∙ either needs.is_lock (nat_lt needs.top request) small
-  where
-    either : (is_lock large : Bool) → (is_lock ≡ false → large ≡ false) → (not is_lock && large) ≡ false
-    either true large small = refl
-    either false large small = small refl
-
--- a registration that is answered at once
-register-answered : (rules : Rules) (places me : ℕ) (is_sync : Bool) (call : WordCall) (standing : ℕ → Place) (state now : AbstractState) (s : Object) (ask : Ask) (held : Held) (value : ℕ) (place : Place)
-    → Starts (needs_of rules) places me standing state s → asked_by call ≡ Some ask → ask.joins ≡ true → is_taken (needs_of rules).is_lock call ≡ true
-    → (not (is_idle (entry_at s.book me)) || asks_too_much s.held ((needs_of rules).read ask.request)) ≡ false
-    → answer_at_once s ((needs_of rules).read ask.request) ≡ Some (record { state = record s { held = held }; reply = value })
-    → held ≡ held_at (needs_of rules) now → now.line ≡ state.line → now.shown ≡ state.shown → place.registration ≡ AnsweredAtOnce value ask.request
-    → Answers (needs_of rules) places me is_sync call (updated standing me place) s now (Says true)
-register-answered rules places me is_sync call standing state now s ask held value place h asks joins taken free answered holds line shown once =
-    let needs : Needs = needs_of rules in
-    let m = h.mirrors in
-    let request : Request = needs.read ask.request in
-    let left : Object = with_entry (record s { held = held }) me (Answered value request is_sync false) in
-    answers-by needs places me is_sync call (updated standing me place) s now (Says true) (registered_by (record { state = left; reply = Ok true }))
-    (register-call rules me is_sync call s ask asks joins taken
-    ∙ (λ i. registered_by (registered_of s me request is_sync (free i) (answered i) (used s == s.room))))
-    (mirrors-set needs places standing state now s held s.line (Answered value request is_sync false) me place is_sync m h.here
-    holds (m.line ∙ ap (waiters needs) (sym line)) (λ other apart. ap (λ (f : ℕ → Option ℕ). f other) shown)
-    (sym (ap (λ (r : Registration). entry_of needs r (now.shown me) is_sync) once)))
-    refl
-
-pub register-got : (rules : Rules) (places me : ℕ) (is_sync : Bool) (call : WordCall) (standing : ℕ → Place) (state : AbstractState) (s : Object) (ask : Ask) (place : Place)
-    → Starts (needs_of rules) places me standing state s → asked_by call ≡ Some ask → ask.joins ≡ true → is_taken (needs_of rules).is_lock call ≡ true
-    → IsEnabled (needs_of rules) state me (Acquired ask.request)
-    → (standing me).registration ≡ IsIdle → ((needs_of rules).is_lock ≡ false → nat_lt (needs_of rules).top ask.request ≡ false)
-    → place.registration ≡ AnsweredAtOnce 0 ask.request
-    → Answers (needs_of rules) places me is_sync call (updated standing me place) s
-    (after_event (needs_of rules) state me (Acquired ask.request)) (Says true)
-register-got rules places me is_sync call standing state s ask place h asks joins taken allowed idle small once =
-    let needs : Needs = needs_of rules in
-    let m = h.mirrors in
-    let request : Request = needs.read ask.request in
-    let test : is_granted_at_once s request ≡ true = got-test needs places me standing state s ask.request m allowed in
-    let grants : granted_at_once s request ≡ Some (record { state = record s { held = plus s.held request }; reply = 0 }) = rw test refl in
-    register-answered rules places me is_sync call standing state (after_event needs state me (Acquired ask.request)) s ask (plus s.held request) 0 place
-    h asks joins taken
-    (free-test rules places me standing state s ask.request h (idle-entry needs places me standing state s m h.here idle) small)
-    (ap (λ (t : Held). answer_when s t request) m.held ∙ answer-at rules state s request allowed.0 ∙ grants)
-    (got-held rules places me standing state s ask.request m allowed) refl refl once
-
-pub register-poisoned : (rules : Rules) (places me : ℕ) (is_sync : Bool) (call : WordCall) (standing : ℕ → Place) (state : AbstractState) (s : Object) (ask : Ask) (place : Place)
-    → Starts (needs_of rules) places me standing state s → asked_by call ≡ Some ask → ask.joins ≡ true → is_taken (needs_of rules).is_lock call ≡ true
-    → IsEnabled (needs_of rules) state me AskedPoisoned
-    → (standing me).registration ≡ IsIdle → ((needs_of rules).is_lock ≡ false → nat_lt (needs_of rules).top ask.request ≡ false)
-    → place.registration ≡ AnsweredAtOnce 2 ask.request
-    → Answers (needs_of rules) places me is_sync call (updated standing me place) s state (Says true)
-register-poisoned rules places me is_sync call standing state s ask place h asks joins taken allowed idle small once =
-    let needs : Needs = needs_of rules in
-    let m = h.mirrors in
-    let request : Request = needs.read ask.request in
-    register-answered rules places me is_sync call standing state state s ask s.held 2 place h asks joins taken
-    (free-test rules places me standing state s ask.request h (idle-entry needs places me standing state s m h.here idle) small)
-    (ap (λ (t : Held). answer_when s t request) (m.held ∙ held-poisoned needs state allowed) ∙ refusing-answers needs s state.count request)
-    m.held refl refl once
-
-pub register-joined : (rules : Rules) (places me : ℕ) (is_sync : Bool) (call : WordCall) (standing : ℕ → Place) (state : AbstractState) (s : Object) (ask : Ask) (place : Place)
-    → Starts (needs_of rules) places me standing state s → asked_by call ≡ Some ask → ask.joins ≡ true → is_taken (needs_of rules).is_lock call ≡ true
-    → IsEnabled (needs_of rules) state me (Joined ask.request)
-    → (standing me).registration ≡ IsIdle → ((needs_of rules).is_lock ≡ false → nat_lt (needs_of rules).top ask.request ≡ false)
-    → place.registration ≡ Queued ask.request
-    → Answers (needs_of rules) places me is_sync call (updated standing me place) s
-    (after_event (needs_of rules) state me (Joined ask.request)) (Says true)
-register-joined rules places me is_sync call standing state s ask place h asks joins taken allowed idle small slot =
-    let needs : Needs = needs_of rules in
-    let m = h.mirrors in
-    let request : Request = needs.read ask.request in
-    let entry : entry_at s.book me ≡ Idle = idle-entry needs places me standing state s m h.here idle in
-    let free : (not (is_idle (entry_at s.book me)) || asks_too_much s.held request) ≡ false = free-test rules places me standing state s ask.request h entry small in
-    let test : is_granted_at_once s request ≡ false = waits-test needs places standing state s ask.request m allowed.0 allowed.1 in
-    let waits : granted_at_once s request ≡ None = rw test refl in
-    let nothing : answer_at_once s request ≡ None =
-    ap (λ (t : Held). answer_when s t request) m.held ∙ answer-at rules state s request allowed.0 ∙ waits in
-    let room : used s == s.room ≡ false = room-test needs places me standing state s m h.here entry in
-    answers-by needs places me is_sync call (updated standing me place) s (after_event needs state me (Joined ask.request)) (Says true)
-    (registered_by (record { state = joined s me request is_sync; reply = Ok true }))
-    (register-call rules me is_sync call s ask asks joins taken
-    ∙ (λ i. registered_by (registered_of s me request is_sync (free i) (nothing i) (room i))))
-    (mirrors-set needs places standing state (after_event needs state me (Joined ask.request)) s s.held (s.line ++ (me, request) ∷ []) (Waiting request is_sync) me place is_sync m h.here
-    m.held (ap (λ (l : List Waiter). l ++ (me, request) ∷ []) m.line ∙ sym (waiters-append needs state.line ((me, ask.request) ∷ [])))
-    (λ other apart. refl)
-    (λ i. entry_of needs (sym slot i) (sym allowed.4 i) is_sync))
-    refl
-
--- a registration that is refused
-register-refused : (rules : Rules) (places me : ℕ) (is_sync : Bool) (call : WordCall) (standing : ℕ → Place) (state : AbstractState) (s : Object) (ask : Ask) (place : Place)
-    → Starts (needs_of rules) places me standing state s → asked_by call ≡ Some ask → ask.joins ≡ true → is_taken (needs_of rules).is_lock call ≡ true
-    → (not (is_idle (entry_at s.book me)) || (not (needs_of rules).is_lock && nat_lt (needs_of rules).top ask.request)) ≡ true
-    → place.registration ≡ (standing me).registration
-    → Answers (needs_of rules) places me is_sync call (updated standing me place) s state (Says false)
-register-refused rules places me is_sync call standing state s ask place h asks joins taken refused same =
-    let needs : Needs = needs_of rules in
-    let request : Request = needs.read ask.request in
-    let test : (not (is_idle (entry_at s.book me)) || asks_too_much s.held request) ≡ true =
-    refused-test rules places me standing state s ask.request h ∙ refused in
-    answers-by needs places me is_sync call (updated standing me place) s state (Says false) (registered_by (record { state = s; reply = Ok false }))
-    (register-call rules me is_sync call s ask asks joins taken
-    ∙ (λ i. registered_by (registered_of s me request is_sync (test i) (answer_at_once s request) (used s == s.room))))
-    (mirrors-same needs places standing state s me place h.mirrors same)
-    refl
-
--- it is for more than there is
-pub register-large : (rules : Rules) (places me : ℕ) (is_sync : Bool) (count : ℕ) (standing : ℕ → Place) (state : AbstractState) (s : Object) (place : Place)
-    → Starts (needs_of rules) places me standing state s → is_taken (needs_of rules).is_lock (Register count) ≡ true
-    → nat_lt (needs_of rules).top count ≡ true → place.registration ≡ (standing me).registration
-    → Answers (needs_of rules) places me is_sync (Register count) (updated standing me place) s state (Says false)
-register-large (Permits bound) places me is_sync count standing state s place h taken large same =
-    register-refused (Permits bound) places me is_sync (Register count) standing state s (record { request = count; joins = true }) place h refl refl refl
-    (rw large (or-true (not (is_idle (entry_at s.book me))))) same
-  where
-    or-true : (b : Bool) → (b || true) ≡ true
-    or-true true = refl
-    or-true false = refl
-register-large Modes places me is_sync count standing state s place h taken large same = absurd (cc)
-
 -- it is of a place that isn't idle
-busy-entry : (needs : Needs) (registration : Registration) (shown : Option ℕ) (is_sync : Bool) → is_free registration ≡ false
-    → is_idle (entry_of needs registration shown is_sync) ≡ false
-busy-entry needs IsIdle shown is_sync busy = absurd (cc)
-busy-entry needs (AnsweredAtOnce value request) shown is_sync busy = refl
-busy-entry needs (Queued request) None is_sync busy = refl
-busy-entry needs (Queued request) (Some value) is_sync busy = refl
+busy-entry : (needs : Needs) (registration : Registration) (shown : Option ℕ) (is_sync : Bool)
+    → is_idle (entry_of needs registration shown is_sync) ≡ is_free registration
+busy-entry needs IsIdle shown is_sync = refl
+busy-entry needs (AnsweredAtOnce value request) shown is_sync = refl
+busy-entry needs (Queued request) None is_sync = refl
+busy-entry needs (Queued request) (Some value) is_sync = refl
 
-pub register-busy : (rules : Rules) (places me : ℕ) (is_sync : Bool) (call : WordCall) (standing : ℕ → Place) (state : AbstractState) (s : Object) (ask : Ask) (place : Place)
-    → Starts (needs_of rules) places me standing state s → asked_by call ≡ Some ask → ask.joins ≡ true → is_taken (needs_of rules).is_lock call ≡ true
-    → is_free (standing me).registration ≡ false → place.registration ≡ (standing me).registration
-    → Answers (needs_of rules) places me is_sync call (updated standing me place) s state (Says false)
-register-busy rules places me is_sync call standing state s ask place h asks joins taken busy same =
-    let needs : Needs = needs_of rules in
-    let entry = h.mirrors.entries me h.here in
-    let test : is_idle (entry_at s.book me) ≡ false =
-    ap is_idle entry.1 ∙ busy-entry needs (standing me).registration (state.shown me) entry.0 busy in
-    register-refused rules places me is_sync call standing state s ask place h asks joins taken
-    (ap (λ (b : Bool). not b || (not needs.is_lock && nat_lt needs.top ask.request)) test) same
+module _ {rules : Rules} {places me : ℕ} {now : Configuration} {s : Object} (b : Begins rules places me now s) (is_sync : Bool) (request : ℕ) where
+  -- there is room for a place that is idle
+  room-test : entry_at s.book me ≡ Idle → used s == s.room ≡ false
+  room-test idle =
+      let less : slots_in s.book < length s.book = slots-room s.book me (rw b.mirrors.names b.here) (ap holds_slot idle) in
+      let below : used s < s.room = omega (arith, less, b.mirrors.names, b.mirrors.room, b.mirrors.alone) in
+      grind (arith, nat_tests)
+
+  -- what speaks against a registration: its place isn't idle, or it asks for more than there ever is
+  refused-test : (not (is_idle (entry_at s.book me)) || asks_too_much s.held ((needs_of rules).read request))
+      ≡ (not (is_free (now.standing me).registration) || (not (needs_of rules).is_lock && nat_lt (needs_of rules).top request))
+  refused-test =
+      let entry = b.mirrors.entries me b.here in
+      λ i. not ((ap is_idle entry.1 ∙ busy-entry (needs_of rules) (now.standing me).registration (b.state.shown me) entry.0) i)
+      || (ap (λ (h : Held). asks_too_much h ((needs_of rules).read request)) b.mirrors.held ∙ asks-at rules b.state request) i
+
+  pub register-refused : (not (is_free (now.standing me).registration) || (not (needs_of rules).is_lock && nat_lt (needs_of rules).top request)) ≡ true
+      → registered s me ((needs_of rules).read request) is_sync ≡ record { state = s; reply = Ok false }
+  register-refused refused =
+      λ i. registered_of s me ((needs_of rules).read request) is_sync ((refused-test ∙ refused) i) (answer_at_once s ((needs_of rules).read request)) (used s == s.room)
+
+module _ {rules : Rules} {places me : ℕ} {now : Configuration} {s : Object} (b : Begins rules places me now s) (is_sync : Bool) (request : ℕ) {last : Configuration}
+    (idle : (now.standing me).registration ≡ IsIdle) (within : (not (needs_of rules).is_lock && nat_lt (needs_of rules).top request) ≡ false)
+    (c : Course (needs_of rules) places me (Some (record { request = request; joins = true })) (now.standing me).registration b.state now.standing last)
+    (over : PlacesAreQuiescent last.standing) where
+  free-test : (not (is_idle (entry_at s.book me)) || asks_too_much s.held ((needs_of rules).read request)) ≡ false
+  free-test = refused-test b is_sync request ∙ (λ i. not (is_free (idle i)) || within i)
+
+  -- one that is answered at once
+  answered-now : (held : Held) (value : ℕ)
+      → answer_at_once s ((needs_of rules).read request) ≡ Some (record { state = record s { held = held }; reply = value })
+      → registered s me ((needs_of rules).read request) is_sync
+      ≡ record { state = with_entry (record s { held = held }) me (Answered value ((needs_of rules).read request) is_sync false); reply = Ok true }
+  answered-now held value answered =
+      λ i. registered_of s me ((needs_of rules).read request) is_sync (free-test i) (answered i) (used s == s.room)
+
+  pub end-register : (answer : Answer) (event : Event) → c.names ≡ event ∷ []
+      → ask_named (needs_of rules) (record { request = request; joins = true }) event ≡ Some answer
+      → Ended b c over (registered_by (registered s me ((needs_of rules).read request) is_sync)) answer
+  end-register answer (Acquired asked) names says =
+      let needs : Needs = needs_of rules in
+      let both = named-if (asked == request) (Says true) answer says in
+      let held : Held = plus s.held (needs.read request) in
+      one-event b c over (registered_by (registered s me (needs.read request) is_sync)) answer (Acquired request)
+      (names ∙ ap (λ (n : ℕ). Acquired n ∷ []) (same_number asked request both.0)) (quiescent b).closed (quiescent b).paid
+      (λ allowed.
+      let grants : granted_at_once s (needs.read request) ≡ Some (record { state = record s { held = held }; reply = 0 }) = rw (got-test b request allowed) refl in (
+        registered_by (record { state = with_entry (record s { held = held }) me (Answered 0 (needs.read request) is_sync false); reply = Ok true }),
+        ap registered_by (answered-now held 0
+            (ap (λ (h : Held). answer_when s h (needs.read request)) b.mirrors.held ∙ answer-at rules b.state s (needs.read request) allowed.0 ∙ grants)),
+        new-entry b (after_event needs b.state me (Acquired request)) held s.line (Answered 0 (needs.read request) is_sync false) (AnsweredAtOnce 0 request) is_sync
+            (got-held b request allowed) b.mirrors.line (λ other apart. refl) refl,
+        both.1,
+      ))
+  end-register answer AskedPoisoned names says =
+      let needs : Needs = needs_of rules in
+      one-event b c over (registered_by (registered s me (needs.read request) is_sync)) answer AskedPoisoned names (quiescent b).closed (quiescent b).paid
+      (λ poisoned.
+      let said : Says true ≡ answer = cc in (
+        registered_by (record { state = with_entry s me (Answered 2 (needs.read request) is_sync false); reply = Ok true }),
+        ap registered_by (answered-now s.held 2
+            (ap (λ (h : Held). answer_when s h (needs.read request)) (b.mirrors.held ∙ held-poisoned needs b.state poisoned)
+            ∙ refusing-answers needs s b.state.count (needs.read request))),
+        new-entry b b.state s.held s.line (Answered 2 (needs.read request) is_sync false) (AnsweredAtOnce 2 request) is_sync b.mirrors.held b.mirrors.line
+            (λ other apart. refl) refl,
+        said,
+      ))
+  end-register answer (Joined asked) names says =
+      let needs : Needs = needs_of rules in
+      let both = named-if ((asked == request) && true) (Says true) answer says in
+      one-event b c over (registered_by (registered s me (needs.read request) is_sync)) answer (Joined request)
+      (names ∙ ap (λ (n : ℕ). Joined n ∷ []) (same_number asked request (both-true (asked == request) true both.0).0)) (quiescent b).closed (quiescent b).paid
+      (λ allowed.
+      let waits : granted_at_once s (needs.read request) ≡ None = rw (granted-test b request allowed.0 ∙ ap not allowed.1) refl in
+      let nothing : answer_at_once s (needs.read request) ≡ None =
+      ap (λ (h : Held). answer_when s h (needs.read request)) b.mirrors.held ∙ answer-at rules b.state s (needs.read request) allowed.0 ∙ waits in
+      let room : used s == s.room ≡ false = room-test b is_sync request (entry-is b IsIdle (b.state.shown me) idle refl).1 in (
+        registered_by (record { state = joined s me (needs.read request) is_sync; reply = Ok true }),
+        (λ i. registered_by (registered_of s me (needs.read request) is_sync (free-test i) (nothing i) (room i))),
+        new-entry b (after_event needs b.state me (Joined request)) s.held (s.line ++ (me, needs.read request) ∷ []) (Waiting (needs.read request) is_sync) (Queued request)
+            is_sync b.mirrors.held
+            (ap (λ (l : List Waiter). l ++ (me, needs.read request) ∷ []) b.mirrors.line ∙ sym (waiters-append needs b.state.line ((me, request) ∷ [])))
+            (λ other apart. refl) (ap (λ (a : Option ℕ). entry_of needs (Queued request) a is_sync) (sym allowed.4)),
+        both.1,
+      ))
+  end-register answer (Refused asked) names says =
+      let both = named-if ((asked == request) && false) (tried_answer (needs_of rules) false) answer says in
+      let wrong : false ≡ true = (both-true (asked == request) false both.0).1 in absurd (cc)
+  end-register answer _ names says = absurd (cc)

@@ -1,5 +1,6 @@
 -- A sequential object for each moment, and for that at which nobody has made a call.
-use Rattle.std.proofs.Common.{◌≡◌, ℕ, zero, suc, ◌+◌, ◌<◌, false, List, [], ◌∷◌, length, replicate, Option, None, refl, sym, ap, ◌∙◌, arith}
+use Rattle.std.proofs.Common.{◌≡◌, ℕ, zero, suc, ◌+◌, ◌<◌, false, List, [], ◌∷◌, length, Option, None, refl, sym, ap, ◌∙◌, arith}
+use Rattle.std.proofs.lemmas.List.{get_or-replicate, length-replicate}
 use Rattle.saa_core_spec.specs.Object.{Object, Entry, Idle, entry_at, newly_made}
 use Rattle.saa_word_steps.specs.declared.place.Place.{Place}
 use Rattle.saa_word_steps.specs.declared.place.Registration.{Registration}
@@ -53,23 +54,14 @@ mirrored needs places standing state = (
   },
 )
 
-idle-names : (count place : ℕ) → entry_at (replicate count Idle) place ≡ Idle
-idle-names zero place = refl
-idle-names (suc more) zero = refl
-idle-names (suc more) (suc place) = idle-names more place
-
-names-length : (count : ℕ) → length (replicate count Idle) ≡ count
-names-length zero = refl
-names-length (suc more) = ap suc (names-length more)
-
 -- and a newly made one stands for the opening
 pub opened : (needs : Needs) (withheld places : ℕ) (standing : ℕ → Place) → ((place : ℕ) → (standing place).registration ≡ IsIdle)
     → PlacesRepresent needs places standing (opening withheld) (newly_made (needs.held withheld) places places)
 opened needs withheld places standing idle = record {
   held = refl;
   line = refl;
-  names = names-length places;
-  entries = λ place within. (false, idle-names places place ∙ ap (λ (r : Registration). entry_of needs r None false) (sym (idle place)));
+  names = length-replicate places Idle;
+  entries = λ place within. (false, get_or-replicate places place Idle Idle within ∙ ap (λ (r : Registration). entry_of needs r None false) (sym (idle place)));
   room = refl;
   alone = refl;
 }

@@ -1,11 +1,9 @@
 -- A call that moves alone is done: each of its steps lowers its step bound, and it needn't wait for anybody.
-use Rattle.std.proofs.Common.{◌^◌, ◌≡◌, ◌≢◌, ℕ, suc, zero, ◌+◌, ◌*◌, ◌<◌, ◌≤◌, false, true, List, length, ◌==◌, Option, Some, None, is_some, nat_lt, refl, sym, ap, subst, ◌∙◌, arith, inl, inr, Ok}
-use Rattle.std.proofs.lemmas.Bool.{cases_Bool}
+use Rattle.std.proofs.Common.{◌^◌, ◌≡◌, ◌≢◌, ◌⊎◌, ℕ, suc, zero, ◌+◌, ◌*◌, ◌<◌, ◌≤◌, false, true, List, length, ◌==◌, Option, Some, None, is_some, nat_lt, refl, sym, ap, subst, ◌∙◌, arith, inl, inr}
 use Rattle.std.proofs.lemmas.List.{length-append}
 use Rattle.saa_core_spec.specs.Object.{one_if, times}
 use Rattle.saa_core_words.specs.Words.{count_bits, answer_number}
 use Rattle.saa_word_steps.specs.declared.call.Answer.{Answer}
-use Rattle.saa_word_steps.specs.declared.call.Answer.TheVariants.{Taken}
 use Rattle.saa_word_steps.specs.declared.call.WordCall.{WordCall}
 use Rattle.saa_word_steps.specs.declared.call.WordCall.TheVariants.{Try, Register, Release, RegisterMode, TryPoll, Poll, Cancel}
 use Rattle.saa_word_steps.specs.declared.place.Place.{Place}
@@ -21,8 +19,8 @@ use Rattle.saa_word_steps.specs.declared.place.PollMode.TheVariants.{Tries, Awai
 use Rattle.saa_word_steps.specs.Needs.{Needs, AreNeeds}
 use Rattle.saa_word_steps.specs.declared.event.Event.{Event}
 use Rattle.saa_word_steps.specs.AbstractState.{AbstractState, is_in}
-use Rattle.saa_word_steps.specs.Steps.{going, operation_of, polled_as, cancelled_as, registered_as, started}
-use Rattle.saa_word_steps.specs.Readings.{is_idle, is_taken, mode_number}
+use Rattle.saa_word_steps.specs.Steps.{going, operation_of, polled_as, cancelled_as, started}
+use Rattle.saa_word_steps.specs.Readings.{is_idle, is_taken}
 use Rattle.saa_word_steps.proofs.AbstractRuns.{waits-none}
 use Rattle.saa_word_proofs.specs.Refinement.{Invariant}
 use Rattle.saa_word_proofs.specs.Rows.{main_of}
@@ -38,8 +36,10 @@ use Rattle.saa_word_proofs.proofs.StepBoundLemmas.Ways.{way-length}
 use Rattle.saa_word_proofs.proofs.StepBoundLemmas.Lines.{uncut-way}
 use Rattle.saa_word_proofs.specs.Alone.{Configuration, IsDoneIn, IsEither, PlacesAreQuiescent, next_at, put, stepped}
 use Rattle.saa_word_proofs.specs.Ends.{Ends}
+use Rattle.saa_word_proofs.proofs.SoloLemmas.Along.{Moves, moves-first, moves-on}
 use Rattle.saa_word_proofs.proofs.SoloLemmas.Quiet.{at-rest}
-use Rattle.saa_word_proofs.proofs.SoloLemmas.Waiting.{Moves, moves-first, moves-on, moves-waits, poll-next}
+use Rattle.saa_word_proofs.proofs.SoloLemmas.Ready.{next-if}
+use Rattle.saa_word_proofs.proofs.SoloLemmas.Waiting.{moves-waits, poll-next}
 
 -- a place is done in so many steps at most, from a moment on
 pub record Finishes (needs : Needs) (places me : ℕ) (now : Configuration) (most : ℕ) : Type 0 where
@@ -49,33 +49,30 @@ pub record Finishes (needs : Needs) (places me : ℕ) (now : Configuration) (mos
   pub done : IsDoneIn needs places me steps now answer last
   pub few : steps ≤ most
 
--- a step with which it is done
-done-now : (needs : Needs) (places me : ℕ) (now : Configuration) (most : ℕ) (place : Place) (answer : Answer) → next_at needs places me now ≡ Done place answer
-    → 0 < most → Finishes needs places me now most
-done-now needs places me now most place answer is some = record {
-  steps = suc zero;
-  answer = answer;
-  last = stepped needs places me now;
-  done = subst (λ (n : Next). IsEither n (IsDoneIn needs places me zero (stepped needs places me now) answer (stepped needs places me now))
-      (λ said. (zero ≡ 0) × (said ≡ answer) × (stepped needs places me now ≡ stepped needs places me now))) (sym is) (refl, refl, refl);
-  few = omega (arith, some);
-}
+-- a call that goes on so, or has started so, is done
+record Closes (needs : Needs) (places me : ℕ) (next : Next) (after : Configuration) (most : ℕ) : Type 0 where
+  steps : ℕ
+  answer : Answer
+  last : Configuration
+  done : IsEither next (IsDoneIn needs places me steps after answer last) (λ said. (steps ≡ 0) × (said ≡ answer) × (after ≡ last))
+  few : steps ≤ most
 
--- how it finishes, by how it goes on
-onward : (needs : Needs) (places me : ℕ) (now : Configuration) (most : ℕ) (next : Next) → next_at needs places me now ≡ next → (next ≡ Waits → ⊥)
-    → ((place : Place) → next ≡ Going place → Finishes needs places me (stepped needs places me now) most)
-    → Finishes needs places me now (suc most)
-onward needs places me now most (Going place) is never more =
-    let rest = more place refl in record {
-      steps = suc rest.steps;
-      answer = rest.answer;
-      last = rest.last;
-      done = subst (λ (n : Next). IsEither n (IsDoneIn needs places me rest.steps (stepped needs places me now) rest.answer rest.last)
-          (λ said. (rest.steps ≡ 0) × (said ≡ rest.answer) × (stepped needs places me now ≡ rest.last))) (sym is) rest.done;
-      few = omega (arith, rest.few);
-    }
-onward needs places me now most Waits is never more = absurd (never refl)
-onward needs places me now most (Done place answer) is never more = done-now needs places me now (suc most) place answer is (omega arith)
+module _ {needs : Needs} {places me : ℕ} where
+  closes : (next : Next) (after : Configuration) (most : ℕ) → (next ≡ Waits → ⊥)
+      → ((place : Place) → next ≡ Going place → Finishes needs places me after most) → Closes needs places me next after most
+  closes (Going place) after most never more =
+      let rest = more place refl in
+      record { steps = rest.steps; answer = rest.answer; last = rest.last; done = rest.done; few = rest.few }
+  closes Waits after most never more = absurd (never refl)
+  closes (Done place answer) after most never more =
+      record { steps = zero; answer = answer; last = after; done = (refl, refl, refl); few = omega arith }
+
+  onward : (now : Configuration) (most before : ℕ) → most < before → (next_at needs places me now ≡ Waits → ⊥)
+      → ((place : Place) → next_at needs places me now ≡ Going place → Finishes needs places me (stepped needs places me now) most)
+      → Finishes needs places me now before
+  onward now most before less never more =
+      let rest = closes (next_at needs places me now) (stepped needs places me now) most never more in
+      record { steps = suc rest.steps; answer = rest.answer; last = rest.last; done = rest.done; few = omega (arith, rest.few, less) }
 
 -- a stage of a call isn't that of a place in none
 in-call : (needs : Needs) (call : WordCall) (registered : Registration) (back : AfterWalk) (stage : Stage) (names : List Event)
@@ -88,35 +85,37 @@ some-left ways number before (Going place) lower = omega (arith, lower)
 some-left ways number before Waits lower = lower
 some-left ways number before (Done place answer) lower = lower.1
 
+-- how many steps its place has left at most
+abbrev bound_at : ℕ → ℕ → Configuration → ℕ
+bound_at places me now = step_bound places now.row (now.standing me).back (now.standing me).stage
+
 -- A call that doesn't poll is done, with as many steps as its step bound at most
-finishes : (needs : Needs) → AreNeeds needs → needs.top < 2 ^ count_bits → (places me : ℕ) → places < 65536 → me < places
-    → (call : WordCall) (registered : Registration) → (call ≡ Poll → ⊥)
-    → (most : ℕ) (now : Configuration) → Moves needs places me call registered now
-    → step_bound places now.row (now.standing me).back (now.standing me).stage ≤ most → Finishes needs places me now most
-finishes needs lawful wide places me room here call registered asks zero now m small =
-    let stage : Stage = (now.standing me).stage in
-    let row : ℕ → ℕ = row_after now.row (operation_of needs places me stage) in
-    let lower = lowered needs lawful wide places now.row now.standing m.state me m.stands stage refl
-    (in-call needs call registered (now.standing me).back stage m.names m.under) in
-    let some = some-left (way places row) (row 0) (step_bound places now.row (now.standing me).back stage) (next_at needs places me now) lower in
-    absurd (omega (arith, some, small))
-finishes needs lawful wide places me room here call registered asks (suc most) now m small =
-    let stage : Stage = (now.standing me).stage in
-    let row : ℕ → ℕ = row_after now.row (operation_of needs places me stage) in
-    let before : ℕ = step_bound places now.row (now.standing me).back stage in
-    let next : Next = next_at needs places me now in
-    let lower = lowered needs lawful wide places now.row now.standing m.state me m.stands stage refl
-    (in-call needs call registered (now.standing me).back stage m.names m.under) in
-    onward needs places me now most next refl
-    (λ waits. asks (moves-waits needs places me here call registered now m waits))
-    (λ place is.
-    let there : (stepped needs places me now).standing me ≡ place =
-    updated-at now.standing me (place_after (now.standing me) next) ∙ ap (place_after (now.standing me)) is in
-    let less : step_bound places row place.back place.stage < before = subst (λ (n : Next). IsLower (way places row) (row 0) before n) is lower in
-    let same : step_bound places row ((stepped needs places me now).standing me).back ((stepped needs places me now).standing me).stage
-    ≡ step_bound places row place.back place.stage = ap (λ (p : Place). step_bound places row p.back p.stage) there in
-    finishes needs lawful wide places me room here call registered asks most (stepped needs places me now)
-    (moves-on needs lawful wide places me room here call registered now m place is) (omega (arith, less, same, small)))
+module _ {needs : Needs} (lawful : AreNeeds needs) (small : needs.top < 2 ^ count_bits) {places me : ℕ} (room : places < 65536) (here : me < places)
+    (call : WordCall) (registered : Registration) {was : Registration} {start : AbstractState} {first : ℕ → Place} (quiet : PlacesAreQuiescent first)
+    (other : call ≡ Poll → ⊥) where
+  lowers : (now : Configuration) → Moves needs places me call registered was start first now
+      → (0 < bound_at places me now) × ((place : Place) → next_at needs places me now ≡ Going place → bound_at places me (stepped needs places me now) < bound_at places me now)
+  lowers now m =
+      let was : Place = now.standing me in
+      let row : ℕ → ℕ = row_after now.row (operation_of needs places me was.stage) in
+      let next : Next = next_at needs places me now in
+      let lower : IsLower (way places row) (row 0) (bound_at places me now) next =
+      lowered needs lawful small places now.row now.standing m.course.state me m.course.stands was.stage refl
+      (in-call needs call registered was.back was.stage m.course.names m.under) in (
+        some-left (way places row) (row 0) (bound_at places me now) next lower,
+        λ place is.
+            let there : (stepped needs places me now).standing me ≡ place = updated-at now.standing me (place_after was next) ∙ ap (place_after was) is in
+            subst (λ (p : Place). step_bound places row p.back p.stage < bound_at places me now) (sym there)
+            (subst (λ (n : Next). IsLower (way places row) (row 0) (bound_at places me now) n) is lower),
+      )
+
+  finishes : (most : ℕ) (now : Configuration) → Moves needs places me call registered was start first now → bound_at places me now ≤ most
+      → Finishes needs places me now most
+  finishes zero now m few = absurd (omega (arith, (lowers now m).0, few))
+  finishes (suc most) now m few =
+      onward now most (suc most) (omega arith) (λ waits. other (moves-waits here call registered quiet now m waits))
+      (λ place is. finishes most (stepped needs places me now) (moves-on lawful small room here call registered now m place is)
+      (omega (arith, (lowers now m).1 place is, few)))
 
 -- what is left of a call that starts so
 abbrev IsFew : ℕ → (ℕ → ℕ) → ℕ → Next → Type 0
@@ -134,71 +133,21 @@ cancel-few : (needs : Needs) (places : ℕ) (row : ℕ → ℕ) (most : ℕ) (pl
     → 8 * way places row (main_of row).tail + 11 ≤ most → IsFew places row most (cancelled_as needs place registration)
 cancel-few needs places row most place Idle small = tt
 cancel-few needs places row most place (AnsweredAtOnce value request) small =
-    elim (cases_Bool (is_taken_up needs request value)) [
-      | inl up ↦ rw up (omega (arith, small))
-      | inr free ↦ rw free tt
-    ]
+    next-if (is_taken_up needs request value) (IsFew places row most) _ _ (omega (arith, small)) tt
 cancel-few needs places row most place (Queued request) small = small
-
-register-few : (places : ℕ) (row : ℕ → ℕ) (most : ℕ) (place : Place) (request : ℕ) → 3 ≤ most → IsFew places row most (registered_as place request)
-register-few places row most place request small =
-    elim (cases_Bool (is_idle place.registration)) [
-      | inl idle ↦ rw idle small
-      | inr refused ↦ rw refused tt
-    ]
 
 start-few : (needs : Needs) (places : ℕ) (row : ℕ → ℕ) (most : ℕ) (place : Place) (call : WordCall) → 8 * way places row (main_of row).tail + 11 ≤ most
     → IsFew places row most (started needs place call)
-start-few needs places row most place (Try count) small =
-    elim (cases_Bool (nat_lt needs.top count)) [
-      | inl more ↦ rw more tt
-      | inr fits ↦ rw fits (omega (arith, small))
-    ]
+start-few needs places row most place (Try count) small = next-if (nat_lt needs.top count) (IsFew places row most) _ _ tt (omega (arith, small))
 start-few needs places row most place (Register count) small =
-    elim (cases_Bool (nat_lt needs.top count)) [
-      | inl more ↦ rw more tt
-      | inr fits ↦ rw fits (register-few places row most place count (omega (arith, small)))
-    ]
+    next-if (nat_lt needs.top count) (IsFew places row most) _ _ tt (next-if (is_idle place.registration) (IsFew places row most) _ _ (omega (arith, small)) tt)
 start-few needs places row most place (Release count) small =
-    elim (cases_Bool (nat_lt needs.top count)) [
-      | inl more ↦ rw more tt
-      | inr fits ↦
-          elim (cases_Bool (count == 0)) [
-            | inl nothing ↦ rw (fits, nothing) tt
-            | inr some ↦ rw (fits, some) (omega (arith, small))
-          ]
-    ]
-start-few needs places row most place (RegisterMode mode) small = register-few places row most place (mode_number mode) (omega (arith, small))
+    next-if (nat_lt needs.top count) (IsFew places row most) _ _ tt (next-if (count == 0) (IsFew places row most) _ _ tt (omega (arith, small)))
+start-few needs places row most place (RegisterMode mode) small = next-if (is_idle place.registration) (IsFew places row most) _ _ (omega (arith, small)) tt
 start-few needs places row most place TryPoll small = poll-few places row most place Tries place.registration (omega (arith, small))
 start-few needs places row most place Poll small = poll-few places row most place Awaits place.registration (omega (arith, small))
 start-few needs places row most place Cancel small = cancel-few needs places row most place place.registration small
 start-few needs places row most place call small = omega (arith, small)
-
--- a call that starts is done, where it is once it goes on
-begins : (needs : Needs) (places me : ℕ) (call : WordCall) (registered : Registration) (now : Configuration) (most : ℕ) (next : Next)
-    → started needs (now.standing me) call ≡ next → IsBegun needs call registered next
-    → ((place : Place) → next ≡ Going place → Finishes needs places me (put me (Going place) now) most)
-    → Ends needs places me call now most
-begins needs places me call registered now most (Going place) is begun more =
-    let rest = more place refl in
-    record {
-      steps = rest.steps;
-      answer = rest.answer;
-      last = rest.last;
-      called = subst (λ (n : Next). IsEither n (IsDoneIn needs places me rest.steps (put me n now) rest.answer rest.last)
-          (λ said. (rest.steps ≡ 0) × (said ≡ rest.answer) × (put me n now ≡ rest.last))) (sym is) rest.done;
-      few = rest.few;
-    }
-begins needs places me call registered now most Waits is begun more = absurd begun
-begins needs places me call registered now most (Done place answer) is begun more =
-    record {
-      steps = zero;
-      answer = answer;
-      last = put me (Done place answer) now;
-      called = subst (λ (n : Next). IsEither n (IsDoneIn needs places me zero (put me n now) answer (put me (Done place answer) now))
-          (λ said. (zero ≡ 0) × (said ≡ answer) × (put me n now ≡ put me (Done place answer) now))) (sym is) (refl, refl, refl);
-      few = omega arith;
-    }
 
 -- a place that has joined, isn't in the line and has no answer to come has its answer
 has-answer : (waits : ℕ) (due shown : Option ℕ) → waits ≡ 0 → due ≡ None → waits + one_if (is_some due) + one_if (is_some shown) ≡ 1
@@ -218,45 +167,40 @@ polled needs places me now state most here s quiet absent some (Queued request) 
     let rest = at-rest needs places now.row now.standing state s quiet in
     let found = has-answer (times me state.line) (state.due me) (state.shown me) (waits-none me state.line absent) (rest.paid me)
     (s.seats.held me ∙ ap (λ (r : Registration). one_if (is_slot r)) is) in
-    done-now needs places me (put me (going (now.standing me) (Take Awaits)) now) most (record (now.standing me) { registration = Idle; stage = Quiet })
-    (Taken (Ok (found.0 == 0)))
-    (poll-next needs places me now (Some found.0) (s.answers.words me here ∙ ap answer_number found.1)
-    (λ value it. s.answers.small me value (found.1 ∙ it))) some
+    let done =
+    poll-next needs places me now (Some found.0) (s.answers.words me here ∙ ap answer_number found.1) (λ value it. s.answers.small me value (found.1 ∙ it)) in
+    onward (put me (going (now.standing me) (Take Awaits)) now) 0 most some (λ waits. absurd (cc)) (λ place goes. absurd (cc))
+
+is-poll : (call : WordCall) → (call ≡ Poll) ⊎ (call ≡ Poll → ⊥)
+is-poll Poll = inl refl
+is-poll call = inr (λ same. absurd (cc))
 
 -- Whatever call it is
 pub ends : (needs : Needs) → AreNeeds needs → needs.top < 2 ^ count_bits → (places : ℕ) (row : ℕ → ℕ) (standing : ℕ → Place) (state : AbstractState) (me : ℕ) (call : WordCall)
     → places < 65536 → me < places → Invariant needs places row standing state → PlacesAreQuiescent standing → is_taken needs.is_lock call ≡ true
     → (call ≡ Poll → is_in me state.line ≡ false)
     → Ends needs places me call (record { row = row; standing = standing }) (8 * length state.line + 24)
-ends needs lawful wide places row standing state me call room here s quiet taken absent =
+ends needs lawful small places row standing state me call room here s quiet taken absent =
     let now : Configuration = record { row = row; standing = standing } in
-    let next : Next = started needs (standing me) call in
+    let most : ℕ = 8 * length state.line + 24 in
     let way_is = way-length places row (main_of row).tail s.uncut (uncut-way needs places row standing state s) in
     let parts : length state.line ≡ length s.cut + length s.uncut = ap length s.line.parts ∙ length-append s.cut s.uncut in
-    let small : 8 * way places row (main_of row).tail + 11 ≤ 8 * length state.line + 24 = omega (arith, way_is, parts) in
-    begins needs places me call (standing me).registration now (8 * length state.line + 24) next refl (call-begun needs (standing me) call (quiet me) taken)
-    (λ place is. by-call call taken absent small place is)
-  where
-    other : (call : WordCall) → is_taken needs.is_lock call ≡ true → (call ≡ Poll → ⊥)
-        → 8 * way places row (main_of row).tail + 11 ≤ 8 * length state.line + 24
-        → (place : Place) → started needs (standing me) call ≡ Going place
-        → Finishes needs places me (put me (Going place) (record { row = row; standing = standing })) (8 * length state.line + 24)
-    other call taken asks small place is =
-        let now : Configuration = record { row = row; standing = standing } in
-        let few : step_bound places row place.back place.stage ≤ 8 * length state.line + 24 =
-        subst (λ (n : Next). IsFew places row (8 * length state.line + 24) n) is
-        (start-few needs places row (8 * length state.line + 24) (standing me) call small) in
-        let same : step_bound places row ((put me (Going place) now).standing me).back ((put me (Going place) now).standing me).stage
-        ≡ step_bound places row place.back place.stage = ap (λ (p : Place). step_bound places row p.back p.stage) (updated-at standing me place) in
-        finishes needs lawful wide places me room here call (standing me).registration asks (8 * length state.line + 24) (put me (Going place) now)
-        (moves-first needs wide places me call now state s quiet here taken place is) (omega (arith, few, same))
-
-    by-call : (call : WordCall) → is_taken needs.is_lock call ≡ true → (call ≡ Poll → is_in me state.line ≡ false)
-        → 8 * way places row (main_of row).tail + 11 ≤ 8 * length state.line + 24
-        → (place : Place) → started needs (standing me) call ≡ Going place
-        → Finishes needs places me (put me (Going place) (record { row = row; standing = standing })) (8 * length state.line + 24)
-    by-call Poll taken absent small place is =
-        let now : Configuration = record { row = row; standing = standing } in
-        subst (λ (n : Next). Finishes needs places me (put me n now) (8 * length state.line + 24)) is
-        (polled needs places me now state (8 * length state.line + 24) here s quiet (absent refl) (omega arith) (standing me).registration refl place is)
-    by-call call taken absent small place is = other call taken (λ poll. absurd (cc)) small place is
+    let few : 8 * way places row (main_of row).tail + 11 ≤ most = omega (arith, way_is, parts) in
+    let next : Next = started needs (standing me) call in
+    let done : Closes needs places me next (put me next now) most =
+    closes next (put me next now) most (λ waits. subst (IsBegun needs call (standing me).registration) waits (call-begun needs (standing me) call (quiet me) taken))
+    (λ place is.
+    elim (is-poll call) [
+      | inl poll ↦
+          let polls : started needs (standing me) call ≡ polled_as (standing me) Awaits (standing me).registration = ap (started needs (standing me)) poll in
+          subst (λ (n : Next). Finishes needs places me (put me n now) most) (sym polls)
+          (polled needs places me now state most here s quiet (absent poll) (omega arith) (standing me).registration refl place (sym polls ∙ is))
+      | inr other ↦
+          let begun : IsFew places row most (Going place) =
+          subst (λ (n : Next). IsFew places row most n) is (start-few needs places row most (standing me) call few) in
+          subst (λ (n : Next). Finishes needs places me (put me n now) most) (sym is)
+          (finishes lawful small room here call (standing me).registration quiet other most (put me (Going place) now)
+          (moves-first small s quiet here call taken place is)
+          (subst (λ (p : Place). step_bound places row p.back p.stage ≤ most) (sym (updated-at standing me place)) begun))
+    ]) in
+    record { steps = done.steps; answer = done.answer; last = done.last; called = done.done; few = done.few }

@@ -1,16 +1,16 @@
 -- The events of a call that moves alone between two moments when the object is at rest.
-use Rattle.std.proofs.Common.{◌≡◌, ◌⊎◌, ℕ, ◌+◌, Bool, true, false, ◌||◌, List, [], ◌∷◌, ◌++◌, take, drop, ◌==◌, if◌then◌else◌, Option, Some, None, is_some, refl, sym, ap, subst, ◌∙◌, arith, inl, inr, append_assoc, get_or}
+use Rattle.std.proofs.Common.{◌≡◌, ◌⊎◌, ℕ, ◌+◌, Bool, true, false, List, [], ◌∷◌, ◌++◌, take, drop, ◌==◌, if◌then◌else◌, Option, Some, None, is_some, refl, sym, ap, subst, ◌∙◌, arith, inl, inr, append_assoc}
 use Rattle.std.proofs.lemmas.List.{take-append-drop}
 use Rattle.std.proofs.lemmas.Bool.{cases_Bool}
+use Rattle.std.proofs.Math.Bool.{or-false, or-true}
 use Rattle.saa_core_spec.proofs.Counts.{same_number}
 use Rattle.saa_word_steps.specs.Needs.{Needs, kept}
 use Rattle.saa_word_steps.specs.declared.event.Event.{Event}
 use Rattle.saa_word_steps.specs.declared.event.Event.TheVariants.{Closed, Granted, Showed, Poisoned}
-use Rattle.saa_word_steps.specs.AbstractState.{AbstractState, IsEnabled, after_event, IsRun, IsFront, is_in, takes_of, answered_with}
+use Rattle.saa_word_steps.specs.AbstractState.{AbstractState, IsEnabled, after_event, IsRun, IsFront, IsSettledAt, is_in, takes_of, answered_with}
 use Rattle.saa_word_proofs.specs.History.{is_named, named, of_place}
 use Rattle.saa_word_proofs.proofs.RefinementLemmas.Lists.{in-append, front-append, takes-append}
 use Rattle.saa_word_proofs.specs.Promises.{WordsAreQuiescent}
-use Rattle.saa_word_proofs.proofs.SoloLemmas.Mirroring.{Settles}
 
 -- Lists of events
 
@@ -37,54 +37,52 @@ nothing-else needs state me (Showed shown_place) closed paid unnamed allowed =
     let wrong : true ≡ false = sym allowed.0 ∙ ap (λ (a : Option ℕ). is_some a) (paid shown_place) in absurd (cc)
 nothing-else needs state me _ closed paid unnamed allowed = let wrong : true ≡ false = unnamed in absurd (cc)
 
--- an answer names an event, or not
-pub named-one : (event : Event) (rest : List Event) → is_named event ≡ true → named (event ∷ rest) ≡ event ∷ named rest
-named-one event rest is = rw is refl
+-- a list of events of a place leads from one state to another, and answers name these of them
+pub record NamedRun (needs : Needs) (me : ℕ) (start last : AbstractState) (names : List Event) : Type 0 where
+  pub events : List Event
+  pub run : IsRun needs start (of_place me events) last
+  pub named : named events ≡ names
 
-pub named-none : (event : Event) (rest : List Event) → is_named event ≡ false → named (event ∷ rest) ≡ named rest
-named-none event rest is = rw is refl
-
-some-nil : (event : Event) (rest : List Event) → event ∷ rest ≡ [] → ⊥
-some-nil event rest is = let wrong : true ≡ false = ap is_any is in absurd (cc)
-  where
-    is_any : List Event → Bool
-    is_any [] = false
-    is_any (event ∷ rest) = true
+-- what holds at the start, and behind each event that no answer names, holds at the end where answers name none
+unnamed-keep : (needs : Needs) (me : ℕ) (P : AbstractState → Type 0)
+    → ((state : AbstractState) (event : Event) → is_named event ≡ false → IsEnabled needs state me event → P state → P (after_event needs state me event))
+    → (events : List Event) (state last : AbstractState) → named events ≡ [] → IsRun needs state (of_place me events) last → P state → P last
+unnamed-keep needs me P keeps [] state last names run was = subst P run was
+unnamed-keep needs me P keeps (event ∷ rest) state last names run was =
+    elim (cases_Bool (is_named event)) [
+      | inl is ↦ let some : event ∷ named rest ≡ [] = rw is at names in absurd (cc)
+      | inr unnamed ↦
+          unnamed-keep needs me P keeps rest (after_event needs state me event) last (rw unnamed at names) run.1 (keeps state event unnamed run.0 was)
+    ]
 
 -- where answers name nothing, nothing happens
-pub no-events : (needs : Needs) (me : ℕ) (events : List Event) (state last : AbstractState) → state.unclosed ≡ false → ((place : ℕ) → state.due place ≡ None)
-    → named events ≡ [] → IsRun needs state (of_place me events) last → state ≡ last
-no-events needs me [] state last closed paid names run = run
-no-events needs me (event ∷ rest) state last closed paid names run =
-    elim (cases_Bool (is_named event)) [
-      | inl is ↦ absurd (some-nil event (named rest) (sym (named-one event rest is) ∙ names))
-      | inr not_named ↦ absurd (nothing-else needs state me event closed paid not_named run.0)
-    ]
+pub no-events : {needs : Needs} {me : ℕ} {state last : AbstractState} → state.unclosed ≡ false → ((place : ℕ) → state.due place ≡ None)
+    → NamedRun needs me state last [] → state ≡ last
+no-events {needs} {me} {state} {last} closed paid leads =
+    unnamed-keep needs me (λ z. state ≡ z)
+    (λ z event unnamed allowed same.
+    absurd (nothing-else needs state me event closed paid unnamed (subst (λ y. IsEnabled needs y me event) (sym same) allowed)))
+    leads.events state last leads.named leads.run refl
 
--- What answers name first comes first, and what they name behind it comes behind
-pub record IsFirst (needs : Needs) (me : ℕ) (state : AbstractState) (event : Event) (more : List Event) (last : AbstractState) : Type 0 where
-  pub allowed : IsEnabled needs state me event
-  pub rest : List Event
-  pub run : IsRun needs (after_event needs state me event) (of_place me rest) last
-  pub names : named rest ≡ more
-
-pub first-event : (needs : Needs) (me : ℕ) (events : List Event) (event : Event) (more : List Event) (state last : AbstractState)
-    → state.unclosed ≡ false → ((place : ℕ) → state.due place ≡ None)
-    → named events ≡ event ∷ more → IsRun needs state (of_place me events) last → IsFirst needs me state event more last
-first-event needs me [] event more state last closed paid names run = absurd (some-nil event more (sym names))
-first-event needs me (head ∷ rest) event more state last closed paid names run =
-    elim (cases_Bool (is_named head)) [
-      | inl is ↦
-          let both : head ∷ named rest ≡ event ∷ more = sym (named-one head rest is) ∙ names in
-          let same : head ≡ event = ap (λ (l : List Event). get_or l 0 head) both in
-          record {
-            allowed = subst (λ (e : Event). IsEnabled needs state me e) same run.0;
-            rest = rest;
-            run = subst (λ (e : Event). IsRun needs (after_event needs state me e) (of_place me rest) last) same run.1;
-            names = ap (λ (l : List Event). drop 1 l) both;
-          }
-      | inr not_named ↦ absurd (nothing-else needs state me head closed paid not_named run.0)
-    ]
+-- what answers name first comes first, and what they name behind it comes behind
+pub first-event : {needs : Needs} {me : ℕ} {state last : AbstractState} {event : Event} {more : List Event} → state.unclosed ≡ false
+    → ((place : ℕ) → state.due place ≡ None) → NamedRun needs me state last (event ∷ more)
+    → IsEnabled needs state me event × NamedRun needs me (after_event needs state me event) last more
+first-event {needs} {me} {state} {last} {event} {more} closed paid leads = from leads.events leads.named leads.run
+  where
+    from : (events : List Event) → named events ≡ event ∷ more → IsRun needs state (of_place me events) last
+        → IsEnabled needs state me event × NamedRun needs me (after_event needs state me event) last more
+    from [] names run = absurd (cc)
+    from (head ∷ rest) names run =
+        elim (cases_Bool (is_named head)) [
+          | inl is ↦
+              let both : head ∷ named rest ≡ event ∷ more = rw is at names in
+              let same : head ≡ event = cc in
+              let behind : named rest ≡ more = cc in
+              subst (λ e. IsEnabled needs state me e × NamedRun needs me (after_event needs state me e) last more) same
+              (run.0, record { events = rest; run = run.1; named = behind })
+          | inr unnamed ↦ absurd (nothing-else needs state me head closed paid unnamed run.0)
+        ]
 
 -- Answers
 
@@ -126,14 +124,21 @@ paid-all value start last front paid none place =
 
 -- Grants
 
--- a front of the line was granted since the start, one after another
-record Grants (needs : Needs) (start state : AbstractState) : Type 0 where
-  front : List (ℕ × ℕ)
-  parts : start.line ≡ front ++ state.line
-  fits : IsFront needs start.count front
-  count : state.count ≡ start.count + takes_of needs front
-  poison : state.poisoned ≡ start.poisoned
-  paid : (place : ℕ) → IsPaid 0 start front state place
+-- a front of the line was granted since the start, one after another; whether every request is refused stays as it was
+pub record Grants (needs : Needs) (start state : AbstractState) : Type 0 where
+  pub front : List (ℕ × ℕ)
+  pub parts : start.line ≡ front ++ state.line
+  pub fits : IsFront needs start.count front
+  pub count : state.count ≡ start.count + takes_of needs front
+  pub same : state.poisoned ≡ start.poisoned
+  pub paid : (place : ℕ) → IsPaid 0 start front state place
+
+-- it is shown, and what is left of the line is settled behind it
+pub record Settles (needs : Needs) (start last : AbstractState) : Type 0 where
+  pub grants : Grants needs start last
+  pub open grants use *
+  pub shown : (place : ℕ) → last.shown place ≡ answered_with 0 front start.shown place
+  pub settled : IsSettledAt needs last.count last.line
 
 -- an event that no answer names grants more of the line, or none
 grants-event : (needs : Needs) (start state : AbstractState) (me : ℕ) (event : Event) → is_named event ≡ false → IsEnabled needs state me event
@@ -146,7 +151,7 @@ grants-event needs start state me (Granted askers) unnamed allowed was =
       parts = was.parts ∙ ap (λ (l : List (ℕ × ℕ)). was.front ++ l) whole ∙ sym (append_assoc was.front more (drop askers state.line));
       fits = front-append needs start.count was.front more was.fits (subst (λ (n : ℕ). IsFront needs n more) was.count allowed.3);
       count = omega (arith, was.count, takes-append needs was.front more);
-      poison = was.poison;
+      same = was.same;
       paid = λ place. pays place;
     }
   where
@@ -163,54 +168,27 @@ grants-event needs start state me (Granted askers) unnamed allowed was =
                     inr (rw apart shows.0, shows.1 ∙ sym (ap (λ (b : Bool). if b then Some 0 else start.shown place) same))
               ]
         ]
-      where
-        or-true : (b : Bool) → (b || true) ≡ true
-        or-true true = refl
-        or-true false = refl
-
-        or-false : (b : Bool) → (b || false) ≡ b
-        or-false true = refl
-        or-false false = refl
 grants-event needs start state me Closed unnamed allowed was =
-    record { front = was.front; parts = was.parts; fits = was.fits; count = was.count; poison = was.poison; paid = was.paid }
+    record { front = was.front; parts = was.parts; fits = was.fits; count = was.count; same = was.same; paid = was.paid }
 grants-event needs start state me (Showed shown_place) unnamed allowed was = record {
   front = was.front;
   parts = was.parts;
   fits = was.fits;
   count = was.count;
-  poison = was.poison;
+  same = was.same;
   paid = paid-shown needs 0 start state was.front me shown_place allowed.0 was.paid;
 }
 grants-event needs start state me _ unnamed allowed was = let wrong : true ≡ false = unnamed in absurd (cc)
 
-grants-run : (needs : Needs) (me : ℕ) (events : List Event) (start state last : AbstractState) → named events ≡ [] → IsRun needs state (of_place me events) last
-    → Grants needs start state → Grants needs start last
-grants-run needs me [] start state last names run was = subst (λ (z : AbstractState). Grants needs start z) run was
-grants-run needs me (event ∷ rest) start state last names run was =
-    elim (cases_Bool (is_named event)) [
-      | inl is ↦ absurd (some-nil event (named rest) (sym (named-one event rest is) ∙ names))
-      | inr not_named ↦
-          grants-run needs me rest start (after_event needs state me event) last (sym (named-none event rest not_named) ∙ names) run.1
-          (grants-event needs start state me event not_named run.0 was)
-    ]
-
 -- Where answers name nothing more, and nothing is due, the front of the line that fits is granted until the object is at rest
-pub settles : (needs : Needs) (me : ℕ) (events : List Event) (start last : AbstractState) (row : ℕ → ℕ) → named events ≡ []
-    → IsRun needs start (of_place me events) last → ((place : ℕ) → start.due place ≡ None)
-    → WordsAreQuiescent needs row last → Settles needs start.poisoned start.count start.line start.shown last
-settles needs me events start last row names run paid rests =
+pub settles : {needs : Needs} {me : ℕ} {start last : AbstractState} (row : ℕ → ℕ) → NamedRun needs me start last [] → ((place : ℕ) → start.due place ≡ None)
+    → WordsAreQuiescent needs row last → Settles needs start last
+settles {needs} {me} {start} {last} row leads paid rests =
     let g : Grants needs start last =
-    grants-run needs me events start start last names run
-    (record { front = []; parts = refl; fits = tt; count = omega arith; poison = refl; paid = λ place. inr (paid place, refl) }) in
-    record {
-      same = g.poison;
-      front = g.front;
-      parts = g.parts;
-      fits = g.fits;
-      count = g.count;
-      shown = paid-all 0 start last g.front g.paid rests.paid;
-      settled = rests.settled;
-    }
+    unnamed-keep needs me (Grants needs start) (λ z event unnamed allowed was. grants-event needs start z me event unnamed allowed was)
+    leads.events start last leads.named leads.run
+    (record { front = []; parts = refl; fits = tt; count = omega arith; same = refl; paid = λ place. inr (paid place, refl) }) in
+    record { grants = g; shown = paid-all 0 start last g.front g.paid rests.paid; settled = rests.settled }
 
 -- Poison
 
@@ -235,26 +213,15 @@ tells-event needs start state me (Showed shown_place) unnamed allowed was = reco
 }
 tells-event needs start state me _ unnamed allowed was = let wrong : true ≡ false = unnamed in absurd (cc)
 
-tells-run : (needs : Needs) (me : ℕ) (events : List Event) (start state last : AbstractState) → named events ≡ [] → IsRun needs state (of_place me events) last
-    → Tells needs start state → Tells needs start last
-tells-run needs me [] start state last names run was = subst (λ (z : AbstractState). Tells needs start z) run was
-tells-run needs me (event ∷ rest) start state last names run was =
-    elim (cases_Bool (is_named event)) [
-      | inl is ↦ absurd (some-nil event (named rest) (sym (named-one event rest is) ∙ names))
-      | inr not_named ↦
-          tells-run needs me rest start (after_event needs state me event) last (sym (named-none event rest not_named) ∙ names) run.1
-          (tells-event needs start state me event not_named run.0 was)
-    ]
-
 -- Behind poison all waiters are shown that, until nothing is due
-pub tells : (needs : Needs) (me : ℕ) (events : List Event) (start last : AbstractState) → named events ≡ []
-    → IsRun needs (after_event needs start me Poisoned) (of_place me events) last → start.unclosed ≡ false
+pub tells : (needs : Needs) (me : ℕ) (start : AbstractState) {last : AbstractState} → NamedRun needs me (after_event needs start me Poisoned) last [] → start.unclosed ≡ false
     → ((place : ℕ) → start.due place ≡ None) → ((place : ℕ) → last.due place ≡ None)
     → (last.poisoned ≡ true) × (last.line ≡ []) × ((place : ℕ) → last.shown place ≡ answered_with 2 start.line start.shown place)
     × (last.count ≡ kept needs start.count)
-tells needs me events start last names run closed paid none =
+tells needs me start {last} leads closed paid none =
     let t : Tells needs start last =
-    tells-run needs me events start (after_event needs start me Poisoned) last names run
+    unnamed-keep needs me (Tells needs start) (λ z event unnamed allowed was. tells-event needs start z me event unnamed allowed was)
+    leads.events (after_event needs start me Poisoned) last leads.named leads.run
     (record { poison = refl; count = refl; closed = closed; line = refl; paid = λ place. owes place }) in
     (t.poison, t.line, paid-all 2 start last start.line t.paid none, t.count)
   where

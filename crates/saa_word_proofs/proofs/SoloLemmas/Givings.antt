@@ -1,245 +1,262 @@
--- The sequential object beside a release: what is given back, and the front that is granted behind it.
-use Rattle.std.proofs.Common.{◌≡◌, ℕ, ◌+◌, ◌≤◌, Bool, true, false, ◌||◌, List, [], ◌∷◌, ◌++◌, take, drop, ◌==◌, nat_lt, nat_le, if◌then◌else◌, Option, Some, None, refl, sym, ap, subst, ◌∙◌, arith, inl, inr}
+-- The sequential object beside a release and a cancel: what is given back, and the front that is granted behind it.
+use Rattle.std.proofs.Common.{◌≡◌, ℕ, ◌≤◌, Bool, true, false, [], ◌∷◌, ◌==◌, Option, Some, None, refl, sym, ap, ◌∙◌, zero, suc, not, ◌&&◌, List, inl, inr}
 use Rattle.std.proofs.lemmas.Bool.{cases_Bool}
-use Rattle.std.proofs.lemmas.Bool.Decides.{nat_tests}
-use Rattle.saa_core_spec.specs.Held.{Held, less}
-use Rattle.saa_core_spec.specs.Object.{Object, entry_at, Waiter}
-use Rattle.saa_core_spec.specs.Settling.{answered_entry, answered_in, fitting_front, plus_all, settled}
-use Rattle.saa_core_spec.specs.Polling.{given_back, given_back_of}
+use Rattle.saa_core_spec.specs.declared.request.Request.{Request}
+use Rattle.saa_core_spec.specs.declared.request.Request.TheVariants.{WaitExclusive, WaitShared}
+use Rattle.saa_core_spec.specs.Held.{Held, less, LockState, Free, Poisoned, held_lock, lock_less}
+use Rattle.saa_core_spec.specs.Object.{Object, After, Entry, Idle, Answered, Waiter, entry_at, with_entry, without}
+use Rattle.saa_core_spec.specs.Settling.{settled}
+use Rattle.saa_core_spec.specs.Polling.{given_back, given_back_of, dropped, dropped_of, left_of, undone_of}
 use Rattle.saa_core_spec.proofs.Counts.{same_number}
 use Rattle.saa_word_steps.specs.declared.rules.Rules.{Rules}
 use Rattle.saa_word_steps.specs.declared.rules.Rules.TheVariants.{Permits, Modes}
-use Rattle.saa_word_steps.specs.declared.place.Place.{Place}
-use Rattle.saa_word_steps.specs.declared.place.ReleaseAmount.TheVariants.{Requested}
+use Rattle.saa_word_steps.specs.declared.place.Ask.{Ask}
 use Rattle.saa_word_steps.specs.declared.place.Registration.{Registration}
-use Rattle.saa_word_steps.specs.declared.call.Answer.TheVariants.{Bool as Says}
-use Rattle.saa_word_steps.specs.declared.call.WordCall.{WordCall}
-use Rattle.saa_word_steps.specs.declared.call.WordCall.TheVariants.{Release, ReleaseLock, ReleaseShare}
-use Rattle.saa_word_steps.specs.Needs.{Needs, forgets, left_count, lock_needs, needs_of}
-use Rattle.saa_word_steps.specs.declared.event.Event.TheVariants.{ReleasedNothing}
-use Rattle.saa_word_steps.specs.AbstractState.{AbstractState, IsEnabled, IsSettledAt, is_in, takes_of, answered_with}
-use Rattle.saa_word_steps.specs.Readings.{is_taken}
-use Rattle.saa_word_proofs.specs.Refinement.{AreSeats}
-use Rattle.saa_word_proofs.specs.Rows.{updated}
-use Rattle.saa_word_proofs.specs.Registering.{is_slot}
-use Rattle.saa_word_proofs.specs.CallStages.{given_by}
-use Rattle.saa_word_proofs.proofs.RefinementLemmas.Lists.{in-append}
-use Rattle.saa_word_proofs.specs.Represents.{entry_of, held_at, held_where, waiters}
-use Rattle.saa_word_proofs.specs.Alone.{PlacesRepresent}
-use Rattle.saa_word_proofs.proofs.SoloLemmas.HeldAt.{less-none, less-where, for-something, held-calm}
-use Rattle.saa_word_proofs.proofs.SoloLemmas.Fronts.{entry-answered, length-answered, settled-front}
-use Rattle.saa_word_proofs.proofs.SoloLemmas.Commands.{given_back_by, release-call}
-use Rattle.saa_word_proofs.proofs.SoloLemmas.Mirroring.{Starts, Settles, Answers, answers-by, AreEntries, mirrors-held, mirrors-same, slot-is, waits-slot}
+use Rattle.saa_word_steps.specs.declared.place.Registration.TheVariants.{Idle as IsIdle, AnsweredAtOnce, Queued}
+use Rattle.saa_word_steps.specs.declared.place.ReleaseAmount.TheVariants.{Requested}
+use Rattle.saa_word_steps.specs.declared.call.Answer.{Answer}
+use Rattle.saa_word_steps.specs.declared.call.Answer.TheVariants.{Bool as Says, Unit as SaysNothing}
+use Rattle.saa_word_steps.specs.Needs.{Needs, needs_of, lock_at, lock_needs, permit_needs}
+use Rattle.saa_word_steps.specs.declared.event.Event.{Event}
+use Rattle.saa_word_steps.specs.declared.event.Event.TheVariants.{Released, ReleasedNothing, AnswerTaken, Cancelled}
+use Rattle.saa_word_steps.specs.AbstractState.{AbstractState, IsEnabled, after_event, count_or, with_answer}
+use Rattle.saa_word_proofs.specs.Agrees.{Begins}
+use Rattle.saa_word_proofs.specs.Alone.{Configuration, PlacesAreQuiescent}
+use Rattle.saa_word_proofs.specs.Calls.{release_named, IsCancelled, IsDropped, is_taken_up}
+use Rattle.saa_word_proofs.specs.Registering.{registration_after}
+use Rattle.saa_word_proofs.specs.Represents.{held_at, held_where, waiters}
+use Rattle.saa_word_proofs.proofs.SoloLemmas.Along.{Course}
+use Rattle.saa_word_proofs.proofs.SoloLemmas.Endings.{Ended, leads, left-as, named-if, one-event, opening-event, only}
+use Rattle.saa_word_proofs.proofs.SoloLemmas.Events.{NamedRun, first-event}
+use Rattle.saa_word_proofs.proofs.SoloLemmas.HeldAt.{less-none, less-where, for-something, held-cases}
+use Rattle.saa_word_proofs.proofs.SoloLemmas.Mirroring.{same, same-entries, quiescent, StateIsQuiescent, barren-after, entry-is, idle-entry, new-entry, once-after, taken-other, waiting-entry}
 
--- Settling
+-- what is held is given back, and the line is settled; what isn't held isn't given back
+module _ (rules : Rules) (state : AbstractState) (s : Object) (me request : ℕ) (held : s.held ≡ held_at (needs_of rules) state)
+    (bounded : state.count ≤ (needs_of rules).top) (some : (needs_of rules).takes request == 0 ≡ false) where
+  pub giving-back : (allowed : IsEnabled (needs_of rules) state me (Released request))
+      → given_back s ((needs_of rules).read request)
+      ≡ record { state = settled (record s { held = held_where (needs_of rules) state.poisoned allowed.1.0 }); reply = true }
+  giving-back allowed =
+      let gave : less s.held ((needs_of rules).read request) ≡ Some (held_where (needs_of rules) state.poisoned allowed.1.0) =
+      ap (λ (h : Held). less h ((needs_of rules).read request)) held
+      ∙ less-where rules state.poisoned state.count request allowed.1.0 allowed.0 bounded allowed.1.1 in
+      λ i. given_back_of s (for-something rules request some i) (gave i)
 
--- a waiter joined the line, and is shown nothing
-abbrev pub AreWaiting : (ℕ → Place) → AbstractState → Type 0
-AreWaiting standing state = (place : ℕ) → is_in place state.line ≡ true → (is_slot (standing place).registration ≡ true) × (state.shown place ≡ None)
+  pub giving-nothing : IsEnabled (needs_of rules) state me (ReleasedNothing request) → given_back s ((needs_of rules).read request) ≡ record { state = s; reply = false }
+  giving-nothing allowed =
+      let nothing : less s.held ((needs_of rules).read request) ≡ None =
+      ap (λ (h : Held). less h ((needs_of rules).read request)) held ∙ less-none rules state.poisoned state.count request bounded allowed in
+      λ i. given_back_of s (for-something rules request some i) (nothing i)
 
--- the entries of a front are answered and shown, and no others
-pub answered-entries : (value : ℕ) (needs : Needs) (places : ℕ) (standing : ℕ → Place) (state : AbstractState) (s : Object) (front rest : List (ℕ × ℕ)) (shown : ℕ → Option ℕ)
-    → PlacesRepresent needs places standing state s → AreWaiting standing state → state.line ≡ front ++ rest
-    → ((place : ℕ) → shown place ≡ answered_with value front state.shown place)
-    → AreEntries needs places standing shown (answered_in value (waiters needs front) s.book)
-answered-entries value needs places standing state s front rest shown m waiting parts says other within =
-    let h = m.entries other within in
-    let entry = entry-answered value needs front s.book other (rw m.names within) in
-    elim (cases_Bool (is_in other front)) [
-      | inl there ↦
-          let waits = waiting other (ap (is_in other) parts ∙ in-append other front rest ∙ ap (λ (b : Bool). b || is_in other rest) there) in
-          let slot = slot-is (standing other).registration waits.0 in
-          let was : entry_at s.book other ≡ entry_of needs (standing other).registration None h.0 =
-          h.1 ∙ ap (λ (a : Option ℕ). entry_of needs (standing other).registration a h.0) waits.1 in
-          let answer : shown other ≡ Some value = says other ∙ rw there refl in
-          let answers : (if is_in other front then answered_entry value (entry_at s.book other) else entry_at s.book other) ≡ answered_entry value (entry_at s.book other) =
-          rw there refl in (
-            h.0,
-            entry ∙ answers ∙ ap (answered_entry value) was
-                ∙ ap (λ (r : Registration). answered_entry value (entry_of needs r None h.0)) slot.1
-                ∙ (λ i. entry_of needs (sym slot.1 i) (sym answer i) h.0),
-          )
-      | inr apart ↦
-          let answer : shown other ≡ state.shown other = says other ∙ rw apart refl in
-          (h.0, entry ∙ rw apart h.1 ∙ ap (λ (a : Option ℕ). entry_of needs (standing other).registration a h.0) (sym answer))
+-- what a release answers
+abbrev pub given_back_by : After Bool → After Answer
+given_back_by after = record { state = after.state; reply = Says after.reply }
+
+-- what is held then
+pub held-behind : (needs : Needs) (state : AbstractState) (me request : ℕ) (allowed : IsEnabled needs state me (Released request))
+    → held_where needs state.poisoned allowed.1.0 ≡ held_at needs (after_event needs state me (Released request))
+held-behind needs state me request allowed = ap (λ (o : Option ℕ). held_where needs state.poisoned (count_or state.count o)) (sym allowed.1.1)
+
+module _ {rules : Rules} {places me : ℕ} {now : Configuration} {s : Object} (b : Begins rules places me now s) (given : ℕ)
+    (some : (needs_of rules).takes given == 0 ≡ false) {asks : Option Ask} {last : Configuration}
+    (c : Course (needs_of rules) places me asks (now.standing me).registration b.state now.standing last) (over : PlacesAreQuiescent last.standing) where
+  pub end-release : (answer : Answer) (event : Event) → c.names ≡ event ∷ [] → release_named (Requested given) event ≡ Some answer
+      → Ended b c over (given_back_by (given_back s ((needs_of rules).read given))) answer
+  end-release answer (Released request) names says =
+      let needs : Needs = needs_of rules in
+      let both = named-if (request == given) (Says true) answer says in
+      let is : c.names ≡ Released given ∷ [] = names ∙ ap (λ (n : ℕ). Released n ∷ []) (same_number request given both.0) in
+      opening-event b c over (given_back_by (given_back s (needs.read given))) answer (now.standing me).registration (left-as b c over is) b.state (Released given)
+      (quiescent b) (leads b c over is) (quiescent b).paid
+      (λ allowed.
+      let freed : Object = record s { held = held_where needs b.state.poisoned allowed.1.0 } in (
+        freed,
+        ap given_back_by (giving-back rules b.state s me given b.mirrors.held b.stands.main.bounded some allowed)
+            ∙ ap (λ (a : Answer). record { state = settled freed; reply = a }) both.1,
+        same-entries b (after_event needs b.state me (Released given)) freed.held s.line (held-behind needs b.state me given allowed) b.mirrors.line refl,
+      ))
+  end-release answer (ReleasedNothing request) names says =
+      let both = named-if (request == given) (Says false) answer says in
+      one-event b c over (given_back_by (given_back s ((needs_of rules).read given))) answer (ReleasedNothing given)
+      (names ∙ ap (λ (n : ℕ). ReleasedNothing n ∷ []) (same_number request given both.0)) (quiescent b).closed (quiescent b).paid
+      (λ allowed. (
+        given_back_by (record { state = s; reply = false }),
+        ap given_back_by (giving-nothing rules b.state s me given b.mirrors.held b.stands.main.bounded some allowed),
+        same b,
+        both.1,
+      ))
+  end-release answer _ names says = absurd (cc)
+
+-- What a drop does
+
+-- a semaphore and a lock get back what was granted, and are settled once somebody has left
+form-drops : (rules : Rules) (state : AbstractState) (s : Object) (held : Held) (request : Request) → held ≡ held_at (needs_of rules) state
+    → (undone_of s held request ≡ (given_back s request).state) × (left_of s held ≡ settled s)
+form-drops (Permits bound) state s held request is =
+    rw is (held-cases (permit_needs bound) state (λ held poisoned. (undone_of s held request ≡ (given_back s request).state) × (left_of s held ≡ settled s))
+    (λ shut. (refl, refl)) (λ calm. (refl, refl)))
+form-drops Modes state s held request is =
+    rw is (held-cases lock_needs state (λ held poisoned. (undone_of s held request ≡ (given_back s request).state) × (left_of s held ≡ settled s))
+    (λ poisoned. (refl, refl)) (λ calm. (refl, refl)))
+
+-- no wait mode is given back
+wait-modes : (lock : LockState) → (lock_less lock WaitExclusive ≡ None) × (lock_less lock WaitShared ≡ None)
+wait-modes Free = (refl, refl)
+wait-modes _ = (refl, refl)
+
+waits-nothing : (state : AbstractState) (s : Object) (wait : Request) → ((lock : LockState) → lock_less lock wait ≡ None) → s.held ≡ held_at lock_needs state
+    → (given_back_of s false (less s.held wait)).state ≡ s
+waits-nothing state s wait none held =
+    ap (λ (h : Held). (given_back_of s false (less h wait)).state) held
+    ∙ held-cases lock_needs state (λ held poisoned. (given_back_of s false (less held wait)).state ≡ s)
+    (λ poisoned. ap (λ (l : Option LockState). (given_back_of s false (held_lock l)).state) (none Poisoned))
+    (λ calm. ap (λ (l : Option LockState). (given_back_of s false (held_lock l)).state) (none (lock_at state.count)))
+
+-- what takes nothing isn't given back
+undone-nothing : (rules : Rules) (state : AbstractState) (s : Object) (request : ℕ) → s.held ≡ held_at (needs_of rules) state
+    → (needs_of rules).takes request == 0 ≡ true → (given_back s ((needs_of rules).read request)).state ≡ s
+undone-nothing (Permits bound) state s request held none = rw none refl
+undone-nothing Modes state s zero held none = absurd (cc)
+undone-nothing Modes state s (suc zero) held none = absurd (cc)
+undone-nothing Modes state s (suc (suc zero)) held none = waits-nothing state s WaitExclusive (λ lock. (wait-modes lock).0) held
+undone-nothing Modes state s (suc (suc (suc more))) held none = waits-nothing state s WaitShared (λ lock. (wait-modes lock).1) held
+
+-- Answers that are given up
+
+-- it took something, or not
+took-something : (needs : Needs) (request value : ℕ) → is_taken_up needs request value ≡ true → (value == 0 ≡ true) × (needs.takes request == 0 ≡ false)
+took-something needs request value up = either (value == 0) (needs.takes request == 0) up
+  where
+    either : (granted none : Bool) → (granted && not none) ≡ true → (granted ≡ true) × (none ≡ false)
+    either true true up = absurd (cc)
+    either true false up = (refl, refl)
+    either false none up = absurd (cc)
+
+-- what takes something isn't 0
+takes-some : (needs : Needs) (request : ℕ) → (needs.takes request ≡ 0 → ⊥) → needs.takes request == 0 ≡ false
+takes-some needs request some =
+    elim (cases_Bool (needs.takes request == 0)) [
+      | inl none ↦ absurd (some (same_number (needs.takes request) 0 none))
+      | inr more ↦ more
     ]
 
--- where nobody waits nothing is settled
-settled-empty : (s : Object) → s.line ≡ [] → settled s ≡ s
-unfolding settled
-settled-empty s none =
-    ap (λ (l : List Waiter). record s {
-      held = plus_all s.held (take (fitting_front s.held l) l);
-      line = drop (fitting_front s.held l) l;
-      book = answered_in 0 (take (fitting_front s.held l) l) s.book;
-    }) none
-    ∙ λ i. record s { line = sym none i }
+-- what a cancel answers
+abbrev pub dropped_by : Object → After Answer
+dropped_by left = record { state = left; reply = SaysNothing }
 
--- what a line without waiters is made of
-none-parts : (front rest : List (ℕ × ℕ)) → front ++ rest ≡ [] → (front ≡ []) × (rest ≡ [])
-none-parts [] rest none = (refl, none)
-none-parts (asker ∷ front) rest none = absurd (cc)
-
-settling-none : (rules : Rules) (places : ℕ) (standing : ℕ → Place) (state now : AbstractState) (s : Object) → PlacesRepresent (needs_of rules) places standing state s
-    → state.line ≡ [] → Settles (needs_of rules) state.poisoned state.count state.line state.shown now
-    → PlacesRepresent (needs_of rules) places standing now (settled s)
-settling-none rules places standing state now s m empty g =
+-- a place has an answer, which took nothing
+pub drop-none : {rules : Rules} {places me : ℕ} {now : Configuration} {s : Object} (b : Begins rules places me now s) (value request : ℕ) (mode slotted : Bool)
+    → entry_at s.book me ≡ Answered value ((needs_of rules).read request) mode slotted → is_taken_up (needs_of rules) request value ≡ false
+    → dropped s me ≡ with_entry s me Idle
+drop-none {rules} {me = me} {s = s} b value request mode slotted entry up =
     let needs : Needs = needs_of rules in
-    let idle : s.line ≡ [] = m.line ∙ ap (waiters needs) empty in
-    let none = none-parts g.front now.line (sym g.parts ∙ empty) in
-    let nothing : takes_of needs g.front ≡ 0 = ap (takes_of needs) none.0 in
-    let counts : state.count ≡ now.count = omega (arith, g.count, nothing) in
-    let after : PlacesRepresent needs places standing now s = record {
-      held = m.held ∙ λ i. held_where needs (sym g.same i) (counts i);
-      line = idle ∙ sym (ap (waiters needs) none.1);
-      names = m.names;
-      entries = λ other within.
-          let h = m.entries other within in
-          let shown : now.shown other ≡ state.shown other = g.shown other ∙ ap (λ (f : List (ℕ × ℕ)). answered_with 0 f state.shown other) none.0 in
-          (h.0, h.1 ∙ ap (λ (a : Option ℕ). entry_of needs (standing other).registration a h.0) (sym shown));
-      room = m.room;
-      alone = m.alone;
-    } in
-    subst (λ (o : Object). PlacesRepresent needs places standing now o) (sym (settled-empty s idle)) after
+    let freed : Object = with_entry s me Idle in
+    ap (dropped_of s me) entry
+    ∙ (elim (cases_Bool (value == 0)) [
+      | inl granted ↦
+          let none : needs.takes request == 0 ≡ true = either (value == 0) (needs.takes request == 0) granted up in
+          rw granted ((form-drops rules b.state freed s.held (needs.read request) b.mirrors.held).0 ∙ undone-nothing rules b.state freed request b.mirrors.held none)
+      | inr other ↦ rw other refl
+    ])
+  where
+    either : (granted none : Bool) → granted ≡ true → (granted && not none) ≡ false → none ≡ true
+    either true true is up = refl
+    either true false is up = absurd (cc)
+    either false none is up = absurd (cc)
 
-settling-calm : (rules : Rules) (places : ℕ) (standing : ℕ → Place) (state now : AbstractState) (s : Object) → PlacesRepresent (needs_of rules) places standing state s
-    → state.poisoned ≡ false → AreWaiting standing state → Settles (needs_of rules) state.poisoned state.count state.line state.shown now
-    → PlacesRepresent (needs_of rules) places standing now (settled s)
-settling-calm rules places standing state now s m calm waiting g =
-    let needs : Needs = needs_of rules in
-    let all : List Waiter = waiters needs g.front in
-    let behind : Object = record s {
-      held = needs.held (state.count + takes_of needs g.front);
-      line = waiters needs now.line;
-      book = answered_in 0 all s.book;
-    } in
-    let settles : settled s ≡ behind =
-    settled-front rules state.count g.front now.line s (m.held ∙ held-calm needs state calm) (m.line ∙ ap (waiters needs) g.parts) g.fits
-    (subst (λ (n : ℕ). IsSettledAt needs n now.line) g.count g.settled) in
-    let after : PlacesRepresent needs places standing now behind = record {
-      held = ap needs.held (sym g.count) ∙ sym (held-calm needs now (g.same ∙ calm));
-      line = refl;
-      names = length-answered 0 all s.book ∙ m.names;
-      entries = answered-entries 0 needs places standing state s g.front now.line now.shown m waiting g.parts g.shown;
-      room = m.room;
-      alone = m.alone;
-    } in
-    subst (λ (o : Object). PlacesRepresent needs places standing now o) (sym settles) after
-
--- settling is granting a front and showing it
-pub settling : (rules : Rules) (places : ℕ) (standing : ℕ → Place) (state now : AbstractState) (s : Object) → PlacesRepresent (needs_of rules) places standing state s
-    → (state.poisoned ≡ true → state.line ≡ []) → AreWaiting standing state → Settles (needs_of rules) state.poisoned state.count state.line state.shown now
-    → PlacesRepresent (needs_of rules) places standing now (settled s)
-settling rules places standing state now s m barren waiting g =
-    elim (cases_Bool state.poisoned) [
-      | inl poisoned ↦ settling-none rules places standing state now s m (barren poisoned) g
-      | inr calm ↦ settling-calm rules places standing state now s m calm waiting g
+without-waiters : (needs : Needs) (me : ℕ) (line : List (ℕ × ℕ)) → without me (waiters needs line) ≡ waiters needs (without me line)
+without-waiters needs me [] = refl
+without-waiters needs me (asker ∷ rest) =
+    elim (cases_Bool (asker.0 == me)) [
+      | inl same ↦ rw same (without-waiters needs me rest)
+      | inr apart ↦ rw apart (ap (λ (l : List Waiter). (asker.0, needs.read asker.1) ∷ l) (without-waiters needs me rest))
     ]
 
--- Giving back
+module _ {rules : Rules} {places me : ℕ} {now : Configuration} {s : Object} (b : Begins rules places me now s) {asks : Option Ask} {was : Registration}
+    {last : Configuration} (c : Course (needs_of rules) places me asks was b.state now.standing last) (over : PlacesAreQuiescent last.standing) where
+  -- what it was granted took something, and is given back where it is still held; it may have taken its answer before
+  gives-up : (request : ℕ) (mode slotted : Bool) → entry_at s.book me ≡ Answered 0 ((needs_of rules).read request) mode slotted
+      → (needs_of rules).takes request == 0 ≡ false → (shown : ℕ → Option ℕ) → ((other : ℕ) → (other ≡ me → ⊥) → shown other ≡ b.state.shown other)
+      → StateIsQuiescent (record b.state { shown = shown }) → (rest : List Event) → NamedRun (needs_of rules) me (record b.state { shown = shown }) c.state rest
+      → (last.standing me).registration ≡ registration_after rest asks IsIdle → IsDropped request rest
+      → Ended b c over (dropped_by (dropped s me)) SaysNothing
+  gives-up request mode slotted entry some shown others quiescent rest leads left dropped_so =
+      let needs : Needs = needs_of rules in
+      let freed : Object = with_entry s me Idle in
+      let from : AbstractState = record b.state { shown = shown } in
+      let drops : dropped s me ≡ (given_back freed (needs.read request)).state =
+      ap (dropped_of s me) entry ∙ (form-drops rules b.state freed s.held (needs.read request) b.mirrors.held).0 in
+      elim dropped_so [
+        | inl gave ↦
+            opening-event b c over (dropped_by (dropped s me)) SaysNothing IsIdle (left ∙ ap (λ (l : List Event). registration_after l asks IsIdle) gave) from
+            (Released request) quiescent (record { events = leads.events; run = leads.run; named = leads.named ∙ gave }) quiescent.paid
+            (λ allowed.
+            let held : Held = held_where needs b.state.poisoned allowed.1.0 in (
+              record freed { held = held },
+              ap dropped_by (drops ∙ ap (λ (a : After Bool). a.state)
+                  (giving-back rules b.state freed me request b.mirrors.held b.stands.main.bounded some allowed)),
+              new-entry b (after_event needs from me (Released request)) held s.line Idle IsIdle false (held-behind needs b.state me request allowed) b.mirrors.line
+                  others refl,
+            ))
+        | inr nothing ↦
+            only b c over (dropped_by (dropped s me)) SaysNothing IsIdle (left ∙ ap (λ (l : List Event). registration_after l asks IsIdle) nothing) from
+            (ReleasedNothing request) quiescent (record { events = leads.events; run = leads.run; named = leads.named ∙ nothing }) quiescent.closed quiescent.paid
+            (λ allowed. (
+              dropped_by freed,
+              ap dropped_by (drops ∙ ap (λ (a : After Bool). a.state)
+                  (giving-nothing rules b.state freed me request b.mirrors.held b.stands.main.bounded some allowed)),
+              idle-entry b shown others,
+              refl,
+            ))
+      ]
 
--- what is held is given back, and the line is settled
-pub giving-back : (rules : Rules) (state : AbstractState) (s : Object) (request left : ℕ) → s.held ≡ held_at (needs_of rules) state
-    → forgets (needs_of rules) state.poisoned ≡ false
-    → state.count ≤ (needs_of rules).top → (needs_of rules).takes request == 0 ≡ false → left_count (needs_of rules) state.count request ≡ Some left
-    → given_back s ((needs_of rules).read request)
-    ≡ record { state = settled (record s { held = held_where (needs_of rules) state.poisoned left }); reply = true }
-giving-back rules state s request left held loose bounded some gives =
-    let needs : Needs = needs_of rules in
-    let gave : less s.held (needs.read request) ≡ Some (held_where needs state.poisoned left) =
-    ap (λ (h : Held). less h (needs.read request)) held ∙ less-where rules state.poisoned state.count request left loose bounded gives in
-    λ i. given_back_of s (for-something rules request some i) (gave i)
+  -- a cancel of an answer that was given at once, which took something: its place is idle from its start on
+  pub end-cancel-once : (value request : ℕ) → was ≡ IsIdle → (now.standing me).registration ≡ AnsweredAtOnce value request
+      → IsCancelled (needs_of rules) (AnsweredAtOnce value request) c.names → Ended b c over (dropped_by (dropped s me)) SaysNothing
+  end-cancel-once value request idle once cancelled =
+      let took = took-something (needs_of rules) request value cancelled.0 in
+      let entry = entry-is b (AnsweredAtOnce value request) (b.state.shown me) once refl in
+      gives-up request entry.0 false
+      (entry.1 ∙ ap (λ (v : ℕ). Answered v ((needs_of rules).read request) entry.0 false) (same_number value 0 took.0)) took.1
+      b.state.shown (λ other apart. refl) (quiescent b) c.names (leads b c over refl) (c.left ∙ ap (registration_after c.names asks) idle) cancelled.1
 
--- what isn't held isn't given back
-pub giving-nothing : (rules : Rules) (state : AbstractState) (s : Object) (me request : ℕ) → s.held ≡ held_at (needs_of rules) state
-    → state.count ≤ (needs_of rules).top → (needs_of rules).takes request == 0 ≡ false → IsEnabled (needs_of rules) state me (ReleasedNothing request)
-    → given_back s ((needs_of rules).read request) ≡ record { state = s; reply = false }
-giving-nothing rules state s me request held bounded some allowed =
-    let needs : Needs = needs_of rules in
-    let nothing : less s.held (needs.read request) ≡ None =
-    ap (λ (h : Held). less h (needs.read request)) held ∙ less-none rules state.poisoned state.count request bounded allowed in
-    λ i. given_back_of s (for-something rules request some i) (nothing i)
-
--- Releases
-
--- what a release gives back takes something
-release-takes : (rules : Rules) (call : WordCall) (given : ℕ) → given_by call ≡ Some (Requested given) → is_taken (needs_of rules).is_lock call ≡ true
-    → ((needs_of rules).is_lock ≡ false → given == 0 ≡ false) → (needs_of rules).takes given == 0 ≡ false
-release-takes (Permits bound) call given gives taken some = some refl
-release-takes Modes ReleaseLock given gives taken some =
-    let same : 0 ≡ given = cc in subst (λ (n : ℕ). lock_needs.takes n == 0 ≡ false) same refl
-release-takes Modes ReleaseShare given gives taken some =
-    let same : 1 ≡ given = cc in subst (λ (n : ℕ). lock_needs.takes n == 0 ≡ false) same refl
-release-takes Modes (Release count) given gives taken some = absurd (cc)
-release-takes Modes _ given gives taken some = absurd (cc)
-
--- a place that is registered as it was waits as it did
-pub waiting-same : (places me : ℕ) (standing : ℕ → Place) (state : AbstractState) (place : Place) → AreSeats places standing state
-    → place.registration ≡ (standing me).registration → AreWaiting (updated standing me place) state
-waiting-same places me standing state place seats same other there =
-    let waits = waits-slot places other standing state seats there in (
-      elim (cases_Bool (other == me)) [
-        | inl here ↦
-            let is : other ≡ me = same_number other me here in
-            rw here (ap is_slot same ∙ ap (λ (n : ℕ). is_slot (standing n).registration) (sym is) ∙ waits.0)
-        | inr apart ↦ rw apart waits.0
-      ],
-      waits.1,
-    )
-
-pub release-gave : (rules : Rules) (places me : ℕ) (is_sync : Bool) (call : WordCall) (standing : ℕ → Place) (state : AbstractState) (s : Object) (given left : ℕ) (now : AbstractState) (place : Place)
-    → Starts (needs_of rules) places me standing state s → given_by call ≡ Some (Requested given) → is_taken (needs_of rules).is_lock call ≡ true
-    → ((needs_of rules).is_lock ≡ false → given == 0 ≡ false)
-    → forgets (needs_of rules) state.poisoned ≡ false → left_count (needs_of rules) state.count given ≡ Some left
-    → Settles (needs_of rules) state.poisoned left state.line state.shown now → place.registration ≡ (standing me).registration
-    → Answers (needs_of rules) places me is_sync call (updated standing me place) s now (Says true)
-release-gave rules places me is_sync call standing state s given left now place h gives taken some loose lefts g same =
-    let needs : Needs = needs_of rules in
-    let m = h.mirrors in
-    let middle : AbstractState = record state { count = left } in
-    let given_up : Object = record s { held = held_where needs state.poisoned left } in
-    let between : PlacesRepresent needs places (updated standing me place) middle given_up =
-    mirrors-held needs places standing state middle s (held_where needs state.poisoned left) s.line me place m refl m.line refl same in
-    answers-by needs places me is_sync call (updated standing me place) s now (Says true) (given_back_by (record { state = settled given_up; reply = true }))
-    (release-call rules me is_sync call s given gives taken
-    ∙ ap given_back_by (giving-back rules state s given left m.held loose h.bounded (release-takes rules call given gives taken some) lefts))
-    (settling rules places (updated standing me place) middle now given_up between (λ poisoned. (h.barren poisoned).1) (waiting-same places me standing state place h.seats same) g)
-    refl
-
-pub release-nothing : (rules : Rules) (places me : ℕ) (is_sync : Bool) (call : WordCall) (standing : ℕ → Place) (state : AbstractState) (s : Object) (given : ℕ) (place : Place)
-    → Starts (needs_of rules) places me standing state s → given_by call ≡ Some (Requested given) → is_taken (needs_of rules).is_lock call ≡ true
-    → ((needs_of rules).is_lock ≡ false → given == 0 ≡ false)
-    → IsEnabled (needs_of rules) state me (ReleasedNothing given) → place.registration ≡ (standing me).registration
-    → Answers (needs_of rules) places me is_sync call (updated standing me place) s state (Says false)
-release-nothing rules places me is_sync call standing state s given place h gives taken some allowed same =
-    let needs : Needs = needs_of rules in
-    let m = h.mirrors in
-    answers-by needs places me is_sync call (updated standing me place) s state (Says false) (given_back_by (record { state = s; reply = false }))
-    (release-call rules me is_sync call s given gives taken
-    ∙ ap given_back_by (giving-nothing rules state s me given m.held h.bounded (release-takes rules call given gives taken some) allowed))
-    (mirrors-same needs places standing state s me place m same)
-    refl
-
--- a release of more than there is
-pub release-large : (rules : Rules) (places me : ℕ) (is_sync : Bool) (count : ℕ) (standing : ℕ → Place) (state : AbstractState) (s : Object) (place : Place)
-    → Starts (needs_of rules) places me standing state s → is_taken (needs_of rules).is_lock (Release count) ≡ true
-    → nat_lt (needs_of rules).top count ≡ true → place.registration ≡ (standing me).registration
-    → Answers (needs_of rules) places me is_sync (Release count) (updated standing me place) s state (Says false)
-release-large (Permits bound) places me is_sync count standing state s place h taken large same =
-    let bounded : state.count ≤ bound = h.bounded in
-    let more : nat_le count state.count ≡ false = grind (arith, nat_tests) in
-    let some : count == 0 ≡ false = grind (arith, nat_tests) in
-    release-nothing (Permits bound) places me is_sync (Release count) standing state s count place h refl refl (λ semaphore. some) (λ loose. rw more refl) same
-release-large Modes places me is_sync count standing state s place h taken large same = absurd (cc)
-
--- a release of nothing
-pub release-none : (rules : Rules) (places me : ℕ) (is_sync : Bool) (count : ℕ) (standing : ℕ → Place) (state : AbstractState) (s : Object) (place : Place)
-    → Starts (needs_of rules) places me standing state s → is_taken (needs_of rules).is_lock (Release count) ≡ true
-    → count == 0 ≡ true → place.registration ≡ (standing me).registration
-    → Answers (needs_of rules) places me is_sync (Release count) (updated standing me place) s state (Says true)
-release-none (Permits bound) places me is_sync count standing state s place h taken none same =
-    let needs : Needs = needs_of (Permits bound) in
-    let nothing : given_back s (needs.read count) ≡ record { state = s; reply = true } = rw none refl in
-    answers-by needs places me is_sync (Release count) (updated standing me place) s state (Says true) (given_back_by (record { state = s; reply = true }))
-    (ap given_back_by nothing) (mirrors-same needs places standing state s me place h.mirrors same) refl
-release-none Modes places me is_sync count standing state s place h taken none same = absurd (cc)
+  -- a cancel of a place that joined the line: it leaves the line, or takes its answer
+  pub end-cancel-slot : (request : ℕ) → (now.standing me).registration ≡ Queued request → IsCancelled (needs_of rules) (Queued request) c.names
+      → Ended b c over (dropped_by (dropped s me)) SaysNothing
+  end-cancel-slot request slot cancelled =
+      let needs : Needs = needs_of rules in
+      elim cancelled [
+        | inl gone ↦
+            opening-event b c over (dropped_by (dropped s me)) SaysNothing IsIdle (left-as b c over gone) b.state Cancelled (quiescent b) (leads b c over gone) (quiescent b).paid
+            (λ there.
+            let left : Object = record (with_entry s me Idle) { line = without me s.line } in
+            let entry = waiting-entry needs places me now.standing b.state s b.mirrors b.stands.seats b.here there in (
+              left,
+              ap (λ (e : Entry). dropped_by (dropped_of s me e)) entry.2 ∙ ap dropped_by ((form-drops rules b.state left s.held entry.0 b.mirrors.held).1),
+              new-entry b (after_event needs b.state me Cancelled) s.held (without me s.line) Idle IsIdle false b.mirrors.held
+                  (ap (without me) b.mirrors.line ∙ without-waiters needs me b.state.line) (λ other apart. refl) refl,
+            ))
+        | inr taken ↦
+            elim taken [
+              | inl took ↦
+                  one-event b c over (dropped_by (dropped s me)) SaysNothing (AnswerTaken took.0) took.1 (quiescent b).closed (quiescent b).paid
+                  (λ shown.
+                  let entry = entry-is b (Queued request) (Some took.0) slot shown in (
+                    dropped_by (with_entry s me Idle),
+                    ap dropped_by (drop-none b took.0 request entry.0 true entry.1 took.2),
+                    idle-entry b (with_answer me None b.state.shown) (taken-other me None b.state.shown),
+                    refl,
+                  ))
+              | inr gave ↦
+                  let first = first-event (quiescent b).closed (quiescent b).paid (leads b c over gave.1.1) in
+                  let entry = entry-is b (Queued request) (Some 0) slot first.0 in
+                  gives-up request entry.0 true entry.1 (takes-some needs request gave.0) (with_answer me None b.state.shown) (taken-other me None b.state.shown)
+                  (record {
+                    closed = (quiescent b).closed;
+                    paid = (quiescent b).paid;
+                    once = once-after needs me (AnswerTaken 0) (quiescent b) first.0;
+                    barren = barren-after needs me (AnswerTaken 0) (quiescent b) first.0;
+                  }) gave.1.0 first.1 (left-as b c over gave.1.1) gave.1.2
+            ]
+      ]

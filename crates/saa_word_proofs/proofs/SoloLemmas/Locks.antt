@@ -1,301 +1,208 @@
--- The sequential object beside a reading call, and beside poison, the clearing of it, and a shut.
-use Rattle.std.proofs.Common.{◌≡◌, ℕ, Bool, true, false, not, ◌&&◌, ◌-◌, List, [], ◌==◌, if◌then◌else◌, Some, refl, sym, ap, ◌∙◌, arith, inl, inr, append-nil}
+-- The sequential object beside a reading call, and beside a downgrade, poison, the clearing of it, and a shut.
+use Rattle.std.proofs.Common.{◌≡◌, ℕ, ◌<◌, Bool, true, false, not, ◌&&◌, ◌-◌, List, [], ◌∷◌, ◌==◌, Option, Some, refl, sym, ap, subst, ◌∙◌, arith, inl, inr, append-nil}
 use Rattle.std.proofs.lemmas.Bool.{cases_Bool}
 use Rattle.std.proofs.lemmas.Bool.Decides.{nat_tests}
 use Rattle.saa_core_spec.specs.Held.{Held, OfLock, OfShutSemaphore, LockState, Free, Exclusive, Shared, Poisoned}
 use Rattle.saa_core_spec.specs.Lock.{is_free, is_locked, is_shared, is_poisoned, downgraded_of, poisoned_of, cleared_of}
-use Rattle.saa_core_spec.specs.Object.{Object, After, Waiter}
+use Rattle.saa_core_spec.specs.Object.{Object, After, Waiter, entry_at}
 use Rattle.saa_core_spec.specs.Semaphore.{available, is_shut, shut_of}
 use Rattle.saa_core_spec.specs.Settling.{answered_in, settled}
 use Rattle.saa_core_spec.proofs.Counts.{same_number}
 use Rattle.saa_word_steps.specs.declared.rules.Rules.{Rules}
 use Rattle.saa_word_steps.specs.declared.rules.Rules.TheVariants.{Permits, Modes}
-use Rattle.saa_word_steps.specs.declared.place.Place.{Place}
+use Rattle.saa_word_steps.specs.declared.place.Ask.{Ask}
 use Rattle.saa_word_steps.specs.declared.place.Reading.{Reading}
-use Rattle.saa_word_steps.specs.declared.place.Reading.TheVariants.{Available as ReadsAvailable, IsFree as ReadsFree, IsLocked as ReadsLocked, IsShared as ReadsShared, IsPoisoned as ReadsPoisoned}
+use Rattle.saa_word_steps.specs.declared.place.ReleaseAmount.TheVariants.{AllButAShare}
 use Rattle.saa_word_steps.specs.declared.call.Answer.{Answer}
-use Rattle.saa_word_steps.specs.declared.call.Answer.TheVariants.{Bool as Says, Number}
-use Rattle.saa_word_steps.specs.declared.call.WordCall.{WordCall}
-use Rattle.saa_word_steps.specs.declared.call.WordCall.TheVariants.{Available, Shut, IsShut, IsFree, IsLocked, IsShared, IsPoisoned, Downgrade, PoisonLock, ClearPoison}
+use Rattle.saa_word_steps.specs.declared.call.Answer.TheVariants.{Bool as Says}
 use Rattle.saa_word_steps.specs.Needs.{Needs, kept, lock_at, lock_needs, needs_of, permit_needs}
+use Rattle.saa_word_steps.specs.declared.event.Event.{Event}
 use Rattle.saa_word_steps.specs.declared.event.Event.TheVariants.{Lowered, NotLowered, Read, Poisoned as IsPoisonedNow, NotPoisoned, Cleared, NotCleared}
-use Rattle.saa_word_steps.specs.AbstractState.{AbstractState, IsEnabled, IsOwned, after_event, answered_with}
-use Rattle.saa_word_steps.specs.Readings.{is_taken, read_as}
-use Rattle.saa_word_proofs.specs.Rows.{updated}
-use Rattle.saa_word_proofs.specs.CallStages.{is_poisoning, read_by}
-use Rattle.saa_word_proofs.specs.Represents.{called, held_at, held_where, waiters}
-use Rattle.saa_word_proofs.specs.Alone.{PlacesRepresent}
-use Rattle.saa_word_proofs.proofs.SoloLemmas.HeldAt.{held-calm, held-poisoned, lock-free, lock-alone, lock-shared}
-use Rattle.saa_word_proofs.proofs.SoloLemmas.Fronts.{length-answered}
-use Rattle.saa_word_proofs.proofs.SoloLemmas.Givings.{answered-entries, settling, waiting-same}
-use Rattle.saa_word_proofs.proofs.SoloLemmas.Mirroring.{Starts, Settles, Answers, answers-by, mirrors-held, mirrors-same}
+use Rattle.saa_word_steps.specs.AbstractState.{AbstractState, IsOwned, MayRefuse, after_event}
+use Rattle.saa_word_steps.specs.Readings.{read_as}
+use Rattle.saa_word_proofs.specs.Agrees.{Begins}
+use Rattle.saa_word_proofs.specs.Alone.{Configuration, PlacesAreQuiescent, PlacesRepresent}
+use Rattle.saa_word_proofs.specs.Calls.{read_named, release_named, poison_named, clear_named}
+use Rattle.saa_word_proofs.specs.Represents.{entry_of, held_at, waiters}
+use Rattle.saa_word_proofs.proofs.SoloLemmas.Along.{Course}
+use Rattle.saa_word_proofs.proofs.SoloLemmas.Endings.{Ended, answered-entries, at-end, leads, left-as, one-event, opening-event}
+use Rattle.saa_word_proofs.proofs.SoloLemmas.Events.{first-event, tells}
+use Rattle.saa_word_proofs.proofs.SoloLemmas.HeldAt.{length-answered, held-calm, held-cases, held-poisoned, is-poisoned, lock-cases}
+use Rattle.saa_word_proofs.proofs.SoloLemmas.Mirroring.{same, same-entries, shown-slot, quiescent}
+use Rattle.saa_word_proofs.proofs.SoloLemmas.Quiet.{at-rest}
+
+-- what a call leaves and says that reads, or is refused
+abbrev pub said : Object → Answer → After Answer
+said s answer = record { state = s; reply = answer }
+
+abbrev pub says : After Bool → After Answer
+says after = record { state = after.state; reply = Says after.reply }
 
 -- What a lock says of itself
 
--- what is held of a lock, by its tests
-abbrev lock_held : Bool → ℕ → Held
-lock_held poisoned count = if poisoned then OfLock Poisoned else OfLock (lock_at count)
+module _ {places me : ℕ} {now : Configuration} {s : Object} (b : Begins Modes places me now s) where
+  -- a test of it by its count, where a poisoned one counts nothing
+  by-count : (test : Held → Bool) (said : ℕ → Bool → Bool) → test (OfLock Poisoned) ≡ said 0 true
+      → (b.state.count == 0 ≡ true → test (OfLock Free) ≡ said b.state.count false)
+      → (b.state.count == 0 ≡ false → b.state.count == 63 ≡ true → test (OfLock Exclusive) ≡ said b.state.count false)
+      → (b.state.count == 0 ≡ false → b.state.count == 63 ≡ false → test (OfLock (Shared b.state.count)) ≡ said b.state.count false)
+      → test s.held ≡ said b.state.count b.state.poisoned
+  by-count test said poison free alone shared =
+      ap test b.mirrors.held
+      ∙ held-cases lock_needs b.state (λ held poisoned. test held ≡ said b.state.count poisoned)
+      (λ poisoned. poison ∙ ap (λ (n : ℕ). said n true) (sym (b.stands.main.barren poisoned).0))
+      (λ calm. lock-cases (λ (l : LockState). test (OfLock l) ≡ said b.state.count false) b.state.count free alone shared)
 
--- a test of a lock by its count, where a poisoned one counts nothing
-by-count : (test : Held → Bool) (said : ℕ → Bool → Bool) (poisoned : Bool) (count : ℕ)
-    → test (OfLock Poisoned) ≡ said 0 true
-    → (count == 0 ≡ true → test (OfLock Free) ≡ said count false)
-    → (count == 0 ≡ false → count == 63 ≡ true → test (OfLock Exclusive) ≡ said count false)
-    → (count == 0 ≡ false → count == 63 ≡ false → test (OfLock (Shared count)) ≡ said count false)
-    → (poisoned ≡ true → count ≡ 0) → test (lock_held poisoned count) ≡ said count poisoned
-by-count test said true count poison free alone shared barren = poison ∙ ap (λ (n : ℕ). said n true) (sym (barren refl))
-by-count test said false count poison free alone shared barren =
-    elim (cases_Bool (count == 0)) [
-      | inl none ↦ ap (λ (l : LockState). test (OfLock l)) (lock-free count none) ∙ free none
-      | inr some ↦
-          elim (cases_Bool (count == 63)) [
-            | inl one ↦ ap (λ (l : LockState). test (OfLock l)) (lock-alone count some one) ∙ alone some one
-            | inr several ↦ ap (λ (l : LockState). test (OfLock l)) (lock-shared count some several) ∙ shared some several
-          ]
-    ]
+  pub reads-free : is_free s.held ≡ ((b.state.count == 0) && not b.state.poisoned)
+  reads-free = by-count is_free (λ n p. (n == 0) && not p) refl (λ none. rw none refl) (λ some one. rw some refl) (λ some several. rw some refl)
 
-reads-free : (poisoned : Bool) (count : ℕ) → (poisoned ≡ true → count ≡ 0) → is_free (lock_held poisoned count) ≡ ((count == 0) && not poisoned)
-reads-free poisoned count barren =
-    by-count is_free (λ n p. (n == 0) && not p) poisoned count refl (λ none. rw none refl) (λ some one. rw some refl) (λ some several. rw some refl) barren
+  pub reads-locked : is_locked s.held ≡ (b.state.count == 63)
+  reads-locked =
+      by-count is_locked (λ n p. n == 63) refl (λ none. let other : b.state.count == 63 ≡ false = grind (arith, nat_tests) in sym other)
+      (λ some one. sym one) (λ some several. sym several)
 
-reads-locked : (poisoned : Bool) (count : ℕ) → (poisoned ≡ true → count ≡ 0) → is_locked (lock_held poisoned count) ≡ (count == 63)
-reads-locked poisoned count barren =
-    by-count is_locked (λ n p. n == 63) poisoned count refl
-    (λ none. let other : count == 63 ≡ false = grind (arith, nat_tests) in sym other)
-    (λ some one. sym one) (λ some several. sym several) barren
+  pub reads-shared : is_shared s.held ≡ (not (b.state.count == 0) && not (b.state.count == 63))
+  reads-shared =
+      by-count is_shared (λ n p. not (n == 0) && not (n == 63)) refl (λ none. rw none refl) (λ some one. rw (some, one) refl)
+      (λ some several. rw (some, several) refl)
 
-reads-shared : (poisoned : Bool) (count : ℕ) → (poisoned ≡ true → count ≡ 0)
-    → is_shared (lock_held poisoned count) ≡ (not (count == 0) && not (count == 63))
-reads-shared poisoned count barren =
-    by-count is_shared (λ n p. not (n == 0) && not (n == 63)) poisoned count refl
-    (λ none. rw none refl) (λ some one. rw (some, one) refl) (λ some several. rw (some, several) refl) barren
+  pub reads-poisoned : is_poisoned s.held ≡ b.state.poisoned
+  reads-poisoned = ap is_poisoned b.mirrors.held ∙ is-poisoned b.state
 
-reads-poisoned : (poisoned : Bool) (count : ℕ) → (poisoned ≡ true → count ≡ 0) → is_poisoned (lock_held poisoned count) ≡ poisoned
-reads-poisoned poisoned count barren =
-    by-count is_poisoned (λ n p. p) poisoned count refl (λ none. refl) (λ some one. refl) (λ some several. refl) barren
+  -- a lock that one owner has says so, and no other does
+  is-owned : IsOwned lock_needs b.state → is_locked s.held ≡ true
+  is-owned owned = reads-locked ∙ ap (λ (n : ℕ). n == 63) owned.1
 
--- what a semaphore says of itself, shut or not
-reads-available : (bound : ℕ) (poisoned : Bool) (count : ℕ) → available (held_where (permit_needs bound) poisoned count) ≡ bound - count
-reads-available bound true count = refl
-reads-available bound false count = refl
+  isnt-owned : (IsOwned lock_needs b.state → ⊥) → is_locked s.held ≡ false
+  isnt-owned none =
+      elim (cases_Bool b.state.poisoned) [
+        | inl poison ↦ ap is_locked (b.mirrors.held ∙ held-poisoned lock_needs b.state poison)
+        | inr calm ↦
+            elim (cases_Bool (b.state.count == 63)) [
+              | inl one ↦ absurd (none (calm, same_number b.state.count 63 one, refl))
+              | inr several ↦ reads-locked ∙ several
+            ]
+      ]
 
-reads-shut : (bound : ℕ) (poisoned : Bool) (count : ℕ) → is_shut (held_where (permit_needs bound) poisoned count) ≡ poisoned
-reads-shut bound true count = refl
-reads-shut bound false count = refl
+-- What a semaphore says of itself, shut or not
 
--- Reading
+module _ {bound places me : ℕ} {now : Configuration} {s : Object} (b : Begins (Permits bound) places me now s) where
+  pub reads-available : available s.held ≡ bound - b.state.count
+  reads-available =
+      ap available b.mirrors.held
+      ∙ held-cases (permit_needs bound) b.state (λ held poisoned. available held ≡ bound - b.state.count) (λ shut. refl) (λ calm. refl)
 
--- what a call leaves that changes nothing, and says
-abbrev said : Object → Answer → After Answer
-said s answer = record { state = s; reply = answer }
+  pub reads-shut : is_shut s.held ≡ b.state.poisoned
+  reads-shut = ap is_shut b.mirrors.held ∙ held-cases (permit_needs bound) b.state (λ held poisoned. is_shut held ≡ poisoned) (λ shut. refl) (λ calm. refl)
 
--- what a reading call says of what is held
-read-call : (rules : Rules) (me : ℕ) (is_sync : Bool) (call : WordCall) (s : Object) (state : AbstractState) (reading : Reading)
-    → read_by call ≡ Some reading → is_taken (needs_of rules).is_lock call ≡ true → s.held ≡ held_at (needs_of rules) state
-    → (state.poisoned ≡ true → state.count ≡ kept (needs_of rules) state.count)
-    → called (needs_of rules).is_lock me is_sync call s ≡ said s (read_as (needs_of rules) reading state.count state.poisoned)
-read-call (Permits bound) me is_sync Available s state reading known taken held barren =
-    let same : ReadsAvailable ≡ reading = cc in
-    ap (λ (h : Held). said s (Number (available h))) held ∙ ap (λ (n : ℕ). said s (Number n)) (reads-available bound state.poisoned state.count)
-    ∙ ap (λ (r : Reading). said s (read_as (needs_of (Permits bound)) r state.count state.poisoned)) same
-read-call (Permits bound) me is_sync IsShut s state reading known taken held barren =
-    let same : ReadsPoisoned ≡ reading = cc in
-    ap (λ (h : Held). said s (Says (is_shut h))) held ∙ ap (λ (b : Bool). said s (Says b)) (reads-shut bound state.poisoned state.count)
-    ∙ ap (λ (r : Reading). said s (read_as (needs_of (Permits bound)) r state.count state.poisoned)) same
-read-call (Permits bound) me is_sync IsFree s state reading known taken held barren = absurd (cc)
-read-call (Permits bound) me is_sync IsLocked s state reading known taken held barren = absurd (cc)
-read-call (Permits bound) me is_sync IsShared s state reading known taken held barren = absurd (cc)
-read-call (Permits bound) me is_sync IsPoisoned s state reading known taken held barren = absurd (cc)
-read-call (Permits bound) me is_sync _ s state reading known taken held barren = absurd (cc)
-read-call Modes me is_sync IsFree s state reading known taken held barren =
-    let same : ReadsFree ≡ reading = cc in
-    ap (λ (h : Held). said s (Says (is_free h))) held ∙ ap (λ (b : Bool). said s (Says b)) (reads-free state.poisoned state.count barren)
-    ∙ ap (λ (r : Reading). said s (read_as lock_needs r state.count state.poisoned)) same
-read-call Modes me is_sync IsLocked s state reading known taken held barren =
-    let same : ReadsLocked ≡ reading = cc in
-    ap (λ (h : Held). said s (Says (is_locked h))) held ∙ ap (λ (b : Bool). said s (Says b)) (reads-locked state.poisoned state.count barren)
-    ∙ ap (λ (r : Reading). said s (read_as lock_needs r state.count state.poisoned)) same
-read-call Modes me is_sync IsShared s state reading known taken held barren =
-    let same : ReadsShared ≡ reading = cc in
-    ap (λ (h : Held). said s (Says (is_shared h))) held ∙ ap (λ (b : Bool). said s (Says b)) (reads-shared state.poisoned state.count barren)
-    ∙ ap (λ (r : Reading). said s (read_as lock_needs r state.count state.poisoned)) same
-read-call Modes me is_sync IsPoisoned s state reading known taken held barren =
-    let same : ReadsPoisoned ≡ reading = cc in
-    ap (λ (h : Held). said s (Says (is_poisoned h))) held ∙ ap (λ (b : Bool). said s (Says b)) (reads-poisoned state.poisoned state.count barren)
-    ∙ ap (λ (r : Reading). said s (read_as lock_needs r state.count state.poisoned)) same
-read-call Modes me is_sync Available s state reading known taken held barren = absurd (cc)
-read-call Modes me is_sync IsShut s state reading known taken held barren = absurd (cc)
-read-call Modes me is_sync _ s state reading known taken held barren = absurd (cc)
+-- Calls of which the registration stays as it is
 
-pub reads : (rules : Rules) (places me : ℕ) (is_sync : Bool) (call : WordCall) (standing : ℕ → Place) (state : AbstractState) (s : Object) (reading : Reading) (count : ℕ) (poisoned : Bool) (place : Place)
-    → Starts (needs_of rules) places me standing state s → read_by call ≡ Some reading → is_taken (needs_of rules).is_lock call ≡ true
-    → IsEnabled (needs_of rules) state me (Read count poisoned) → place.registration ≡ (standing me).registration
-    → Answers (needs_of rules) places me is_sync call (updated standing me place) s state (read_as (needs_of rules) reading count poisoned)
-reads rules places me is_sync call standing state s reading count poisoned place h known taken allowed same =
-    let needs : Needs = needs_of rules in
-    answers-by needs places me is_sync call (updated standing me place) s state (read_as needs reading count poisoned)
-    (said s (read_as needs reading state.count state.poisoned))
-    (read-call rules me is_sync call s state reading known taken h.mirrors.held (λ poison. (h.barren poison).0))
-    (mirrors-same needs places standing state s me place h.mirrors same)
-    (λ i. read_as needs reading (allowed.0 i) (allowed.1 i))
+module _ {rules : Rules} {places me : ℕ} {now : Configuration} {s : Object} (b : Begins rules places me now s) {asks : Option Ask} {last : Configuration}
+    (c : Course (needs_of rules) places me asks (now.standing me).registration b.state now.standing last) (over : PlacesAreQuiescent last.standing) where
+  -- a reading call
+  pub end-read : (reading : Reading) (reply answer : Answer) → reply ≡ read_as (needs_of rules) reading b.state.count b.state.poisoned
+      → (event : Event) → c.names ≡ event ∷ [] → read_named (needs_of rules) reading event ≡ Some answer → Ended b c over (said s reply) answer
+  end-read reading reply answer reads (Read count poisoned) names says =
+      let told : read_as (needs_of rules) reading count poisoned ≡ answer = cc in
+      one-event b c over (said s reply) answer (Read count poisoned) names (quiescent b).closed (quiescent b).paid
+      (λ allowed. (said s reply, refl, same b, reads ∙ (λ i. read_as (needs_of rules) reading (allowed.0 i) (allowed.1 i)) ∙ told))
+  end-read reading reply answer reads _ names says = absurd (cc)
 
--- Downgrades
+  -- poison, or a shut: every waiter is answered so, or nothing changes where it is refused
+  pub end-poison : (after : After Bool) (held : Held)
+      → (MayRefuse (needs_of rules) b.state → after ≡ record { state = record s { held = held; line = []; book = answered_in 2 s.line s.book }; reply = true })
+      → ((state : AbstractState) → state.poisoned ≡ true → state.count ≡ kept (needs_of rules) b.state.count → held ≡ held_at (needs_of rules) state)
+      → ((MayRefuse (needs_of rules) b.state → ⊥) → after ≡ record { state = s; reply = false })
+      → (answer : Answer) (event : Event) → c.names ≡ event ∷ [] → poison_named event ≡ Some answer → Ended b c over (says after) answer
+  end-poison after held done holds refused answer IsPoisonedNow names named =
+      let needs : Needs = needs_of rules in
+      let said : Says true ≡ answer = cc in
+      let first = first-event (quiescent b).closed (quiescent b).paid (leads b c over names) in
+      let told = tells needs me b.state first.1 (quiescent b).closed (quiescent b).paid (at-rest needs places last.row last.standing c.state c.stands over).paid in
+      let m : PlacesRepresent needs places last.standing b.state s = at-end b c over b.state s (left-as b c over names) (same b) in (
+        rw (done first.0.1) (record {
+          held = holds c.state told.0 told.3;
+          line = sym (ap (waiters needs) told.1);
+          names = length-answered 2 s.line s.book ∙ m.names;
+          entries = subst
+              (λ (l : List Waiter). (place : ℕ) → place < places → (is_sync : Bool)
+              × (entry_at (answered_in 2 l s.book) place ≡ entry_of needs (last.standing place).registration (c.state.shown place) is_sync))
+              (sym m.line)
+              (answered-entries 2 needs places (λ place. (last.standing place).registration) b.state s b.state.line [] c.state.shown m (quiescent b).once
+              (sym (append-nil b.state.line)) told.2 (shown-slot c.stands.seats));
+          room = m.room;
+          alone = m.alone;
+        }),
+        ap (λ (a : After Bool). Says a.reply) (done first.0.1) ∙ said,
+      )
+  end-poison after held done holds refused answer NotPoisoned names named =
+      let told : Says false ≡ answer = cc in
+      one-event b c over (says after) answer NotPoisoned names (quiescent b).closed (quiescent b).paid
+      (λ allowed. (said s (Says false), ap says (refused allowed), same b, told))
+  end-poison after held done holds refused answer _ names named = absurd (cc)
 
--- a lock that one owner has says so, and no other does
-is-owned : (places me : ℕ) (standing : ℕ → Place) (state : AbstractState) (s : Object)
-    → Starts lock_needs places me standing state s → IsOwned lock_needs state → is_locked s.held ≡ true
-is-owned places me standing state s h owned =
-    ap is_locked h.mirrors.held ∙ reads-locked state.poisoned state.count (λ poison. (h.barren poison).0)
-    ∙ ap (λ (n : ℕ). n == 63) owned.1
+-- Downgrades and the clearing of poison
 
-isnt-owned : (places me : ℕ) (standing : ℕ → Place) (state : AbstractState) (s : Object)
-    → Starts lock_needs places me standing state s → (IsOwned lock_needs state → ⊥) → is_locked s.held ≡ false
-isnt-owned places me standing state s h none =
-    let other : state.count == 63 ≡ false =
-    elim (cases_Bool state.poisoned) [
-      | inl poison ↦ ap (λ (n : ℕ). n == 63) (h.barren poison).0
-      | inr calm ↦
-          elim (cases_Bool (state.count == 63)) [
-            | inl one ↦ absurd (none (calm, same_number state.count 63 one, refl))
-            | inr several ↦ several
-          ]
-    ] in
-    ap is_locked h.mirrors.held ∙ reads-locked state.poisoned state.count (λ poison. (h.barren poison).0) ∙ other
+module _ {places me : ℕ} {now : Configuration} {s : Object} (b : Begins Modes places me now s) {asks : Option Ask} {last : Configuration}
+    (c : Course lock_needs places me asks (now.standing me).registration b.state now.standing last) (over : PlacesAreQuiescent last.standing) where
+  -- a lock that one owner has is shared by one then, and the front of the line is granted
+  pub end-downgrade : (answer : Answer) (event : Event) → c.names ≡ event ∷ [] → release_named AllButAShare event ≡ Some answer
+      → Ended b c over (says (downgraded_of s (is_locked s.held))) answer
+  end-downgrade answer Lowered names named =
+      let told : Says true ≡ answer = cc in
+      let lowered : Object = record s { held = OfLock (Shared 1) } in
+      opening-event b c over (says (downgraded_of s (is_locked s.held))) answer (now.standing me).registration (left-as b c over names) b.state Lowered
+      (quiescent b) (leads b c over names) (quiescent b).paid
+      (λ owned. (
+        lowered,
+        ap (λ (b : Bool). says (downgraded_of s b)) (is-owned b owned) ∙ ap (said (settled lowered)) told,
+        same-entries b (after_event lock_needs b.state me Lowered) lowered.held s.line (sym (held-calm lock_needs (after_event lock_needs b.state me Lowered) owned.0))
+            b.mirrors.line refl,
+      ))
+  end-downgrade answer NotLowered names named =
+      let told : Says false ≡ answer = cc in
+      one-event b c over (says (downgraded_of s (is_locked s.held))) answer NotLowered names (quiescent b).closed (quiescent b).paid
+      (λ none. (said s (Says false), ap (λ (b : Bool). says (downgraded_of s b)) (isnt-owned b none), same b, told))
+  end-downgrade answer _ names named = absurd (cc)
 
--- a lock that one owner has is shared by one then, and the front of the line is granted
-pub downgrade-done : (rules : Rules) (places me : ℕ) (is_sync : Bool) (standing : ℕ → Place) (state : AbstractState) (s : Object) (now : AbstractState) (place : Place)
-    → Starts (needs_of rules) places me standing state s → is_taken (needs_of rules).is_lock Downgrade ≡ true
-    → IsEnabled (needs_of rules) state me Lowered → Settles (needs_of rules) state.poisoned 1 state.line state.shown now → place.registration ≡ (standing me).registration
-    → Answers (needs_of rules) places me is_sync Downgrade (updated standing me place) s now (Says true)
-downgrade-done (Permits bound) places me is_sync standing state s now place h taken allowed g same = absurd (cc)
-downgrade-done Modes places me is_sync standing state s now place h taken allowed g same =
-    let m = h.mirrors in
-    let middle : AbstractState = record state { count = 1 } in
-    let lowered : Object = record s { held = OfLock (Shared 1) } in
-    let between : PlacesRepresent lock_needs places (updated standing me place) middle lowered =
-    mirrors-held lock_needs places standing state middle s (OfLock (Shared 1)) s.line me place m (sym (held-calm lock_needs middle allowed.0)) m.line refl same in
-    answers-by lock_needs places me is_sync Downgrade (updated standing me place) s now (Says true) (said (settled lowered) (Says true))
-    (ap (λ (b : Bool). said (downgraded_of s b).state (Says (downgraded_of s b).reply)) (is-owned places me standing state s h allowed))
-    (settling Modes places (updated standing me place) middle now lowered between (λ poisoned. let wrong : true ≡ false = sym poisoned ∙ allowed.0 in absurd (cc)) (waiting-same places me standing state place h.seats same) g)
-    refl
+  -- a poisoned lock is cleared, and is free then
+  pub end-clear : (answer : Answer) (event : Event) → c.names ≡ event ∷ [] → clear_named event ≡ Some answer
+      → Ended b c over (says (cleared_of s (is_poisoned s.held))) answer
+  end-clear answer Cleared names named =
+      let told : Says true ≡ answer = cc in
+      one-event b c over (says (cleared_of s (is_poisoned s.held))) answer Cleared names (quiescent b).closed (quiescent b).paid
+      (λ allowed. (
+        said (record s { held = OfLock Free }) (Says true),
+        ap (λ (b : Bool). says (cleared_of s b)) (reads-poisoned b ∙ allowed.0),
+        same-entries b (after_event lock_needs b.state me Cleared) (OfLock Free) s.line
+            (ap (λ (n : ℕ). OfLock (lock_at n)) (sym (b.stands.main.barren allowed.0).0)) b.mirrors.line refl,
+        told,
+      ))
+  end-clear answer NotCleared names named =
+      let told : Says false ≡ answer = cc in
+      one-event b c over (says (cleared_of s (is_poisoned s.held))) answer NotCleared names (quiescent b).closed (quiescent b).paid
+      (λ calm. (said s (Says false), ap (λ (b : Bool). says (cleared_of s b)) (reads-poisoned b ∙ calm), same b, told))
+  end-clear answer _ names named = absurd (cc)
 
--- any other isn't
-pub downgrade-refused : (rules : Rules) (places me : ℕ) (is_sync : Bool) (standing : ℕ → Place) (state : AbstractState) (s : Object) (place : Place)
-    → Starts (needs_of rules) places me standing state s → is_taken (needs_of rules).is_lock Downgrade ≡ true
-    → IsEnabled (needs_of rules) state me NotLowered → place.registration ≡ (standing me).registration
-    → Answers (needs_of rules) places me is_sync Downgrade (updated standing me place) s state (Says false)
-downgrade-refused (Permits bound) places me is_sync standing state s place h taken allowed same = absurd (cc)
-downgrade-refused Modes places me is_sync standing state s place h taken allowed same =
-    answers-by lock_needs places me is_sync Downgrade (updated standing me place) s state (Says false) (said s (Says false))
-    (ap (λ (b : Bool). said (downgraded_of s b).state (Says (downgraded_of s b).reply)) (isnt-owned places me standing state s h allowed))
-    (mirrors-same lock_needs places standing state s me place h.mirrors same)
-    refl
+  -- only a lock that one owner has is poisoned
+  pub end-poison_lock : (answer : Answer) (event : Event) → c.names ≡ event ∷ [] → poison_named event ≡ Some answer
+      → Ended b c over (says (poisoned_of s (is_locked s.held))) answer
+  end-poison_lock =
+      end-poison b c over (poisoned_of s (is_locked s.held)) (OfLock Poisoned)
+      (λ may. ap (poisoned_of s) (reads-locked b ∙ may.1))
+      (λ state poisoned counts. sym (held-poisoned lock_needs state poisoned))
+      (λ none. ap (poisoned_of s) (isnt-owned b (λ owned. none (owned.0, ap (λ (n : ℕ). n == 63) owned.1))))
 
--- Poison
-
--- what poison, or a shut, leaves: every waiter is answered so
-refused-after : (needs : Needs) (places me : ℕ) (standing : ℕ → Place) (state : AbstractState) (s : Object) (now : AbstractState) (place : Place) (held : Held)
-    → Starts needs places me standing state s → held ≡ held_at needs now → now.line ≡ []
-    → ((other : ℕ) → now.shown other ≡ answered_with 2 state.line state.shown other) → place.registration ≡ (standing me).registration
-    → PlacesRepresent needs places (updated standing me place) now
-    (record s { held = held; line = []; book = answered_in 2 (waiters needs state.line) s.book })
-refused-after needs places me standing state s now place held h holds line shown same =
-    let m = h.mirrors in
-    record {
-      held = holds;
-      line = sym (ap (waiters needs) line);
-      names = length-answered 2 (waiters needs state.line) s.book ∙ m.names;
-      entries = answered-entries 2 needs places (updated standing me place) state s state.line [] now.shown
-          (mirrors-same needs places standing state s me place m same) (waiting-same places me standing state place h.seats same)
-          (sym (append-nil state.line)) shown;
-      room = m.room;
-      alone = m.alone;
-    }
-
--- a lock that one owner has is poisoned, or a semaphore shut, and all waiters are answered so
-pub poison-done : (rules : Rules) (places me : ℕ) (is_sync : Bool) (call : WordCall) (standing : ℕ → Place) (state : AbstractState) (s : Object) (now : AbstractState) (place : Place)
-    → Starts (needs_of rules) places me standing state s → is_poisoning (needs_of rules).is_lock call ≡ true
-    → IsEnabled (needs_of rules) state me IsPoisonedNow
-    → now.poisoned ≡ true → now.line ≡ [] → ((other : ℕ) → now.shown other ≡ answered_with 2 state.line state.shown other)
-    → now.count ≡ kept (needs_of rules) state.count → place.registration ≡ (standing me).registration
-    → Answers (needs_of rules) places me is_sync call (updated standing me place) s now (Says true)
-poison-done (Permits bound) places me is_sync Shut standing state s now place h poisons allowed poisoned line shown counts same =
-    let needs : Needs = permit_needs bound in
-    let m = h.mirrors in
-    let left : Object = record s { held = OfShutSemaphore bound state.count; line = []; book = answered_in 2 (waiters needs state.line) s.book } in
-    let holds : OfShutSemaphore bound state.count ≡ held_at needs now =
-    ap (λ (n : ℕ). OfShutSemaphore bound n) (sym counts) ∙ sym (held-poisoned needs now poisoned) in
-    answers-by needs places me is_sync Shut (updated standing me place) s now (Says true) (said left (Says true))
-    (ap (λ (t : Held). said (shut_of s t).state (Says (shut_of s t).reply)) (m.held ∙ held-calm needs state allowed.1.0)
-    ∙ ap (λ (l : List Waiter). said (record s { held = OfShutSemaphore bound state.count; line = []; book = answered_in 2 l s.book }) (Says true)) m.line)
-    (refused-after needs places me standing state s now place (OfShutSemaphore bound state.count) h holds line shown same) refl
-poison-done Modes places me is_sync PoisonLock standing state s now place h poisons allowed poisoned line shown counts same =
-    let m = h.mirrors in
-    let owned : IsOwned lock_needs state = (allowed.1.0, same_number state.count 63 allowed.1.1, refl) in
-    let test : is_locked s.held ≡ true = is-owned places me standing state s h owned in
-    let left : Object = record s { held = OfLock Poisoned; line = []; book = answered_in 2 (waiters lock_needs state.line) s.book } in
-    answers-by lock_needs places me is_sync PoisonLock (updated standing me place) s now (Says true) (said left (Says true))
-    (ap (λ (b : Bool). said (poisoned_of s b).state (Says (poisoned_of s b).reply)) test
-    ∙ ap (λ (l : List Waiter). said (record s { held = OfLock Poisoned; line = []; book = answered_in 2 l s.book }) (Says true)) m.line)
-    (refused-after lock_needs places me standing state s now place (OfLock Poisoned) h (sym (held-poisoned lock_needs now poisoned)) line shown same) refl
-poison-done (Permits bound) places me is_sync PoisonLock standing state s now place h poisons allowed poisoned line shown counts same = absurd (cc)
-poison-done (Permits bound) places me is_sync _ standing state s now place h poisons allowed poisoned line shown counts same = absurd (cc)
-poison-done Modes places me is_sync Shut standing state s now place h poisons allowed poisoned line shown counts same = absurd (cc)
-poison-done Modes places me is_sync _ standing state s now place h poisons allowed poisoned line shown counts same = absurd (cc)
-
--- any other lock isn't, and no semaphore is shut twice
-pub poison-refused : (rules : Rules) (places me : ℕ) (is_sync : Bool) (call : WordCall) (standing : ℕ → Place) (state : AbstractState) (s : Object) (place : Place)
-    → Starts (needs_of rules) places me standing state s → is_poisoning (needs_of rules).is_lock call ≡ true
-    → IsEnabled (needs_of rules) state me NotPoisoned → place.registration ≡ (standing me).registration
-    → Answers (needs_of rules) places me is_sync call (updated standing me place) s state (Says false)
-poison-refused (Permits bound) places me is_sync Shut standing state s place h poisons allowed same =
-    let needs : Needs = permit_needs bound in
-    let m = h.mirrors in
-    let poisoned : state.poisoned ≡ true =
-    elim (cases_Bool state.poisoned) [
-      | inl poisoned ↦ poisoned
-      | inr calm ↦ absurd (allowed (calm, refl))
-    ] in
-    answers-by needs places me is_sync Shut (updated standing me place) s state (Says false) (said s (Says false))
-    (ap (λ (t : Held). said (shut_of s t).state (Says (shut_of s t).reply)) (m.held ∙ held-poisoned needs state poisoned))
-    (mirrors-same needs places standing state s me place m same) refl
-poison-refused Modes places me is_sync PoisonLock standing state s place h poisons allowed same =
-    let m = h.mirrors in
-    let test : is_locked s.held ≡ false =
-    isnt-owned places me standing state s h (λ owned. allowed (owned.0, ap (λ (n : ℕ). n == 63) owned.1)) in
-    answers-by lock_needs places me is_sync PoisonLock (updated standing me place) s state (Says false) (said s (Says false))
-    (ap (λ (b : Bool). said (poisoned_of s b).state (Says (poisoned_of s b).reply)) test)
-    (mirrors-same lock_needs places standing state s me place m same) refl
-poison-refused (Permits bound) places me is_sync PoisonLock standing state s place h poisons allowed same = absurd (cc)
-poison-refused (Permits bound) places me is_sync _ standing state s place h poisons allowed same = absurd (cc)
-poison-refused Modes places me is_sync Shut standing state s place h poisons allowed same = absurd (cc)
-poison-refused Modes places me is_sync _ standing state s place h poisons allowed same = absurd (cc)
-
--- a poisoned lock is cleared, and is free then
-pub clear-done : (rules : Rules) (places me : ℕ) (is_sync : Bool) (standing : ℕ → Place) (state : AbstractState) (s : Object) (place : Place)
-    → Starts (needs_of rules) places me standing state s → is_taken (needs_of rules).is_lock ClearPoison ≡ true
-    → IsEnabled (needs_of rules) state me Cleared → place.registration ≡ (standing me).registration
-    → Answers (needs_of rules) places me is_sync ClearPoison (updated standing me place) s (after_event (needs_of rules) state me Cleared) (Says true)
-clear-done (Permits bound) places me is_sync standing state s place h taken allowed same = absurd (cc)
-clear-done Modes places me is_sync standing state s place h taken allowed same =
-    let m = h.mirrors in
-    let test : is_poisoned s.held ≡ true =
-    ap is_poisoned m.held ∙ reads-poisoned state.poisoned state.count (λ poison. (h.barren poison).0) ∙ allowed.0 in
-    answers-by lock_needs places me is_sync ClearPoison (updated standing me place) s (after_event lock_needs state me Cleared) (Says true)
-    (said (record s { held = OfLock Free }) (Says true))
-    (ap (λ (b : Bool). said (cleared_of s b).state (Says (cleared_of s b).reply)) test)
-    (mirrors-held lock_needs places standing state (after_event lock_needs state me Cleared) s (OfLock Free) s.line me place m
-    (ap (λ (n : ℕ). OfLock (lock_at n)) (sym (h.barren allowed.0).0)) m.line refl same) refl
-
-pub clear-refused : (rules : Rules) (places me : ℕ) (is_sync : Bool) (standing : ℕ → Place) (state : AbstractState) (s : Object) (place : Place)
-    → Starts (needs_of rules) places me standing state s → is_taken (needs_of rules).is_lock ClearPoison ≡ true
-    → IsEnabled (needs_of rules) state me NotCleared → place.registration ≡ (standing me).registration
-    → Answers (needs_of rules) places me is_sync ClearPoison (updated standing me place) s state (Says false)
-clear-refused (Permits bound) places me is_sync standing state s place h taken allowed same = absurd (cc)
-clear-refused Modes places me is_sync standing state s place h taken allowed same =
-    let m = h.mirrors in
-    let test : is_poisoned s.held ≡ false =
-    ap is_poisoned m.held ∙ reads-poisoned state.poisoned state.count (λ poison. (h.barren poison).0) ∙ allowed in
-    answers-by lock_needs places me is_sync ClearPoison (updated standing me place) s state (Says false) (said s (Says false))
-    (ap (λ (b : Bool). said (cleared_of s b).state (Says (cleared_of s b).reply)) test)
-    (mirrors-same lock_needs places standing state s me place m same) refl
+-- a semaphore is shut once
+pub end-shut : {bound places me : ℕ} {now : Configuration} {s : Object} (b : Begins (Permits bound) places me now s) {asks : Option Ask} {last : Configuration}
+    (c : Course (permit_needs bound) places me asks (now.standing me).registration b.state now.standing last) (over : PlacesAreQuiescent last.standing)
+    → (answer : Answer) (event : Event) → c.names ≡ event ∷ [] → poison_named event ≡ Some answer → Ended b c over (says (shut_of s s.held)) answer
+end-shut {bound} {s = s} b c over =
+    end-poison b c over (shut_of s s.held) (OfShutSemaphore bound b.state.count)
+    (λ may. ap (shut_of s) (b.mirrors.held ∙ held-calm (permit_needs bound) b.state may.0))
+    (λ state poisoned counts. ap (OfShutSemaphore bound) (sym counts) ∙ sym (held-poisoned (permit_needs bound) state poisoned))
+    (λ none.
+    elim (cases_Bool b.state.poisoned) [
+      | inl poisoned ↦ ap (shut_of s) (b.mirrors.held ∙ held-poisoned (permit_needs bound) b.state poisoned)
+      | inr calm ↦ absurd (none (calm, refl))
+    ])

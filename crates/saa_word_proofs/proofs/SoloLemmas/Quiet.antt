@@ -7,7 +7,7 @@ use Rattle.saa_core_spec.proofs.Counts.{number_same}
 use Rattle.saa_word_steps.specs.declared.place.Place.{Place}
 use Rattle.saa_word_steps.specs.declared.place.AfterShow.TheVariants.{Ends, Again}
 use Rattle.saa_word_steps.specs.declared.place.Stage.{Stage}
-use Rattle.saa_word_steps.specs.declared.place.Stage.TheVariants.{BackLoad, BackStore, Forward, CutToClose, CutForRetry, Close, Empty, Retry, ShowLoad, ShowStore, LookLoad, LookStore, Unlink, DropTail}
+use Rattle.saa_word_steps.specs.declared.place.Stage.TheVariants.{Quiet, BackLoad, BackStore, Forward, CutToClose, CutForRetry, Close, Empty, Retry, ShowLoad, ShowStore, LookLoad, LookStore, Unlink, DropTail}
 use Rattle.saa_word_steps.specs.Needs.{Needs}
 use Rattle.saa_word_steps.specs.AbstractState.{AbstractState, is_empty, is_in}
 use Rattle.saa_core_words.specs.declared.line_word.LineWord.{LineWord}
@@ -18,35 +18,36 @@ use Rattle.saa_word_proofs.specs.Rows.{IsBehind, line_of}
 use Rattle.saa_word_proofs.specs.Alone.{PlacesAreQuiescent}
 use Rattle.saa_word_proofs.specs.Promises.{WordsAreQuiescent}
 
--- nobody holds the flag
-pub quiet-holder : (needs : Needs) (places : ℕ) (row : ℕ → ℕ) (standing : ℕ → Place) (state : AbstractState) (s : Invariant needs places row standing state)
-    → PlacesAreQuiescent standing → s.holder == 0 ≡ true
-quiet-holder needs places row standing state s quiet =
-    elim (cases_Bool (s.holder == 0)) [
-      | inl nobody ↦ nobody
-      | inr somebody ↦
-          let is : s.holder ≡ pred s.holder + 1 = grind (arith, nat_tests, somebody) in
-          let test : s.holder == pred s.holder + 1 ≡ true = ap (λ (n : ℕ). s.holder == n) (sym is) ∙ number_same s.holder in
-          let wrong : false ≡ true = sym (ap is_holder (quiet (pred s.holder))) ∙ s.stages.one (pred s.holder) ∙ test in
-          absurd (cc)
-    ]
+pub none-answered : (answer : Option ℕ) → one_if (is_some answer) ≡ 0 → answer ≡ None
+none-answered None none = refl
+none-answered (Some value) none = absurd (omega (arith, none))
 
--- an answer that isn't due
-none-due : (due : Option ℕ) → is_some due ≡ false → due ≡ None
-none-due None none = refl
-none-due (Some value) none = absurd (cc)
+module _ {needs : Needs} {places : ℕ} {row : ℕ → ℕ} {standing : ℕ → Place} {state : AbstractState} (s : Invariant needs places row standing state) where
+  -- where no place is at a stage of the flag's holder nobody holds the flag
+  pub nobody-holds : ((place : ℕ) → is_holder (standing place).stage ≡ false) → s.holder == 0 ≡ true
+  nobody-holds none =
+      elim (cases_Bool (s.holder == 0)) [
+        | inl nobody ↦ nobody
+        | inr somebody ↦
+            let is : s.holder ≡ pred s.holder + 1 = grind (arith, nat_tests, somebody) in
+            let test : s.holder == pred s.holder + 1 ≡ true = ap (λ (n : ℕ). s.holder == n) (sym is) ∙ number_same s.holder in
+            let wrong : false ≡ true = sym (none (pred s.holder)) ∙ s.stages.one (pred s.holder) ∙ test in
+            absurd (cc)
+      ]
 
-quiet-due : (needs : Needs) (places : ℕ) (row : ℕ → ℕ) (standing : ℕ → Place) (state : AbstractState) (s : Invariant needs places row standing state)
-    → PlacesAreQuiescent standing → (place : ℕ) → state.due place ≡ None
-quiet-due needs places row standing state s quiet place =
-    elim (cases_Bool (is_some (state.due place))) [
-      | inl due ↦
-          let shower : ℕ = state.granter place in
-          let none : s.owed shower ≡ [] = subst (λ (stage : Stage). IsShowing (s.owed shower) (s.answer_value shower) stage) (quiet shower) (s.stages.showing shower) in
-          let wrong : false ≡ true = ap (is_in place) (sym none) ∙ s.debts.paid_by place due in
-          absurd (cc)
-      | inr none ↦ none-due (state.due place) none
-    ]
+  -- where no place has an answer to show none is due
+  pub nothing-due : ((place : ℕ) → s.owed place ≡ []) → (place : ℕ) → state.due place ≡ None
+  nothing-due none place =
+      elim (cases_Bool (is_some (state.due place))) [
+        | inl due ↦
+            let wrong : false ≡ true = ap (is_in place) (sym (none (state.granter place))) ∙ s.debts.paid_by place due in
+            absurd (cc)
+        | inr none ↦ none-answered (state.due place) (ap one_if none)
+      ]
+
+  -- a place in no call has none to show
+  pub quiet-owes : (place : ℕ) → (standing place).stage ≡ Quiet → s.owed place ≡ []
+  quiet-owes place quiet = subst (λ (stage : Stage). IsShowing (s.owed place) (s.answer_value place) stage) quiet (s.stages.showing place)
 
 -- where nobody holds the flag and no answer is due
 free-rest : (needs : Needs) (places : ℕ) (row : ℕ → ℕ) (standing : ℕ → Place) (state : AbstractState) (s : Invariant needs places row standing state)
@@ -65,24 +66,22 @@ free-rest needs places row standing state s free paid =
 pub at-rest : (needs : Needs) (places : ℕ) (row : ℕ → ℕ) (standing : ℕ → Place) (state : AbstractState)
     → Invariant needs places row standing state → PlacesAreQuiescent standing → WordsAreQuiescent needs row state
 at-rest needs places row standing state s quiet =
-    free-rest needs places row standing state s (quiet-holder needs places row standing state s quiet) (quiet-due needs places row standing state s quiet)
+    free-rest needs places row standing state s (nobody-holds s (λ place. ap is_holder (quiet place)))
+    (nothing-due s (λ place. quiet-owes s place (quiet place)))
 
 -- No place is in the line
 
-none-front : (front rest : List (ℕ × ℕ)) → [] ≡ front ++ rest → is_empty front ≡ true
-none-front [] rest is = refl
-none-front (asker ∷ front) rest is = absurd (cc)
-
-none-rest : (front rest : List (ℕ × ℕ)) → [] ≡ front ++ rest → [] ≡ rest
-none-rest [] rest is = is
-none-rest (asker ∷ front) rest is = absurd (cc)
+-- what a line without waiters is made of
+pub none-parts : (front rest : List (ℕ × ℕ)) → front ++ rest ≡ [] → (front ≡ []) × (rest ≡ [])
+none-parts [] rest none = (refl, none)
+none-parts (asker ∷ front) rest none = absurd (cc)
 
 module _ (held : ℕ) (line : List (ℕ × ℕ)) (seen : Word) (work : Work held line seen) (none : line ≡ []) where
   no-front : is_empty work.front ≡ true
-  no-front = none-front work.front (work.behind ++ work.joined) (sym none ∙ work.parts)
+  no-front = ap is_empty (none-parts work.front (work.behind ++ work.joined) (sym work.parts ∙ none)).0
 
   no-behind : is_empty work.behind ≡ true
-  no-behind = none-front work.behind work.joined (none-rest work.front (work.behind ++ work.joined) (sym none ∙ work.parts))
+  no-behind = ap is_empty (none-parts work.behind work.joined (none-parts work.front (work.behind ++ work.joined) (sym work.parts ∙ none)).1).0
 
 not-both : (test : Bool) → test ≡ true → test ≡ false → ⊥
 not-both test is isnt = let wrong : true ≡ false = sym is ∙ isnt in absurd (cc)
@@ -120,10 +119,6 @@ nobody-in (asker ∷ rest) none =
     let some : asker.0 == asker.0 ≡ true = number_same asker.0 in
     let zero : one_if (asker.0 == asker.0) + times asker.0 rest ≡ 0 = none asker.0 in
     absurd (omega (arith, zero, ap one_if some))
-
-none-answered : (answer : Option ℕ) → one_if (is_some answer) ≡ 0 → answer ≡ None
-none-answered None none = refl
-none-answered (Some value) none = absurd (omega (arith, none))
 
 -- Where no place is registered in the line nobody waits and no answer is due; so nobody holds the flag, whatever calls are underway
 pub rest-unregistered : (needs : Needs) (places : ℕ) (row : ℕ → ℕ) (standing : ℕ → Place) (state : AbstractState)

@@ -28,30 +28,19 @@ same-met words link (place ∷ rest) (other ∷ others) met also =
     same-met words (words place).older rest others met.1 (subst (λ (n : ℕ). IsChain words (words n).older others) (sym is) also.1) in
     λ i. is i ∷ tails i
 
--- so are two lists that end with one place each
-abbrev last-of : List ℕ → ℕ
-last-of [] = 0
-last-of (place ∷ []) = place
-last-of (place ∷ (next ∷ rest)) = last-of (next ∷ rest)
-
-abbrev but-last : List ℕ → List ℕ
-but-last [] = []
-but-last (place ∷ []) = []
-but-last (place ∷ (next ∷ rest)) = place ∷ but-last (next ∷ rest)
-
-last-is : (front : List ℕ) (place : ℕ) → last-of (front ++ place ∷ []) ≡ place
-last-is [] place = refl
-last-is (one ∷ []) place = refl
-last-is (one ∷ (next ∷ rest)) place = last-is (next ∷ rest) place
-
-but-last-is : (front : List ℕ) (place : ℕ) → but-last (front ++ place ∷ []) ≡ front
-but-last-is [] place = refl
-but-last-is (one ∷ []) place = refl
-but-last-is (one ∷ (next ∷ rest)) place = ap (λ (l : List ℕ). one ∷ l) (but-last-is (next ∷ rest) place)
-
 never-none : (front : List ℕ) (place : ℕ) → front ++ place ∷ [] ≡ [] → ⊥
 never-none [] place same = absurd (cc)
 never-none (one ∷ rest) place same = absurd (cc)
+
+-- two lists that are one, each with a place at its end, are one, and so are these places
+same-ends : (front other : List ℕ) (place last : ℕ) → front ++ place ∷ [] ≡ other ++ last ∷ [] → (front ≡ other) × (place ≡ last)
+same-ends [] [] place last same = (refl, cc)
+same-ends [] (one ∷ rest) place last same = absurd (never-none rest last (cc))
+same-ends (one ∷ rest) [] place last same = absurd (never-none rest place (cc))
+same-ends (one ∷ rest) (two ∷ others) place last same =
+    let head : one ≡ two = cc in
+    let tails = same-ends rest others place last (cc) in
+    ((λ i. head i ∷ tails.0 i), tails.1)
 
 -- two lines of the same places, each asking what its line word says, are one
 pub same-line : (words : ℕ → LineWord) (one other : List (ℕ × ℕ)) → newest_first one ≡ newest_first other → AreAsking words one → AreAsking words other → one ≡ other
@@ -59,12 +48,10 @@ same-line words [] [] same asks also = refl
 same-line words [] (asker ∷ rest) same asks also = absurd (never-none (newest_first rest) asker.0 (sym same))
 same-line words (asker ∷ rest) [] same asks also = absurd (never-none (newest_first rest) asker.0 same)
 same-line words (asker ∷ rest) (other ∷ others) same asks also =
-    let place : asker.0 ≡ other.0 =
-    sym (last-is (newest_first rest) asker.0) ∙ ap last-of same ∙ last-is (newest_first others) other.0 in
-    let tails : rest ≡ others =
-    same-line words rest others (sym (but-last-is (newest_first rest) asker.0) ∙ ap but-last same ∙ but-last-is (newest_first others) other.0) asks.1 also.1 in
-    let request : asker.1 ≡ other.1 = sym asks.0 ∙ ap (λ (n : ℕ). (words n).request) place ∙ also.0 in
-    λ i. (place i, request i) ∷ tails i
+    let ends = same-ends (newest_first rest) (newest_first others) asker.0 other.0 same in
+    let tails : rest ≡ others = same-line words rest others ends.0 asks.1 also.1 in
+    let request : asker.1 ≡ other.1 = sym asks.0 ∙ ap (λ (n : ℕ). (words n).request) ends.1 ∙ also.0 in
+    λ i. (ends.1 i, request i) ∷ tails i
 
 -- An object that represents one abstract state represents another that the same words show, while the flag is clear
 pub represents-same : (needs : Needs) (places : ℕ) (row : ℕ → ℕ) (registered : ℕ → Registration) (one other : AbstractState) (s : Object)

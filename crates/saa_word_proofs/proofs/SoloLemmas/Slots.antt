@@ -7,16 +7,16 @@ use Rattle.saa_core_spec.proofs.Counts.{number_same}
 use Rattle.saa_word_steps.specs.declared.call.WordCall.{WordCall}
 use Rattle.saa_word_steps.specs.declared.call.WordCall.TheVariants.{TryPoll, Poll, Cancel}
 use Rattle.saa_word_steps.specs.declared.event.Event.{Event}
-use Rattle.saa_word_steps.specs.declared.event.Event.TheVariants.{Acquired, Refused, Joined, Released, ReleasedNothing, Lowered, NotLowered, AskedPoisoned, Cancelled, Closed, Poisoned, NotPoisoned, Cleared, NotCleared, NotReady, Granted, Showed, AnswerTaken, Read}
+use Rattle.saa_word_steps.specs.declared.event.Event.TheVariants.{Acquired, Joined, AskedPoisoned, Cancelled, Poisoned, Cleared, Granted, AnswerTaken}
 use Rattle.saa_word_steps.specs.declared.place.Ask.{Ask}
 use Rattle.saa_word_steps.specs.declared.place.Registration.{Registration}
 use Rattle.saa_word_steps.specs.declared.place.Registration.TheVariants.{Idle, AnsweredAtOnce, Queued}
 use Rattle.saa_word_steps.specs.Needs.{Needs}
 use Rattle.saa_word_steps.specs.AbstractState.{AbstractState, IsEnabled, after_event, IsRun, is_in, held_by}
-use Rattle.saa_word_steps.proofs.AbstractRuns.{run-once, waits-some}
+use Rattle.saa_word_steps.proofs.AbstractRuns.{run-once}
 use Rattle.saa_word_proofs.specs.Rows.{updated}
 use Rattle.saa_word_proofs.specs.History.{is_named, named, of_place}
-use Rattle.saa_word_proofs.proofs.RefinementLemmas.Lists.{updated-same}
+use Rattle.saa_word_proofs.proofs.RefinementLemmas.Lists.{in-none, updated-same}
 use Rattle.saa_word_proofs.specs.Registering.{AreRegistered, registration_after_start, is_slot, registration_after, registration_after_event}
 
 -- Lines
@@ -64,37 +64,20 @@ push-registered registered place request (asker ∷ rest) are last = (are.0, pus
 
 -- a place that isn't held isn't in the line
 pub not-in : (state : AbstractState) (me most : ℕ) → held_by me state ≤ most → one_if (is_some (state.shown me)) ≡ most → is_in me state.line ≡ false
-not-in state me most held shown =
-    elim (cases_Bool (is_in me state.line)) [
-      | inl there ↦ absurd (omega (arith, held, shown, waits-some me state.line there))
-      | inr out ↦ out
-    ]
+not-in state me most held shown = in-none me state.line (omega (arith, held, shown))
 
 -- Events
 
 -- a poisoned lock has nobody in line
-barren-step : (needs : Needs) (state : AbstractState) (place : ℕ) (event : Event) → IsEnabled needs state place event → (state.poisoned ≡ true → state.line ≡ [])
+pub barren-step : (needs : Needs) (state : AbstractState) (place : ℕ) (event : Event) → IsEnabled needs state place event → (state.poisoned ≡ true → state.line ≡ [])
     → (after_event needs state place event).poisoned ≡ true → (after_event needs state place event).line ≡ []
-barren-step needs state place (Acquired request) allowed was poisoned = was poisoned
-barren-step needs state place (Refused request) allowed was poisoned = was poisoned
 barren-step needs state place (Joined request) allowed was poisoned = (let wrong : true ≡ false = sym poisoned ∙ allowed.0 in absurd (cc))
-barren-step needs state place (Released request) allowed was poisoned = was poisoned
-barren-step needs state place (ReleasedNothing request) allowed was poisoned = was poisoned
-barren-step needs state place Lowered allowed was poisoned = was poisoned
-barren-step needs state place NotLowered allowed was poisoned = was poisoned
-barren-step needs state place AskedPoisoned allowed was poisoned = was poisoned
 barren-step needs state place Cancelled allowed was poisoned = ap (without place) (was poisoned)
 barren-step needs state place (Granted askers) allowed was poisoned =
     let nobody : length state.line ≡ 0 = ap length (was poisoned) in absurd (omega (arith, allowed.1, allowed.2, nobody))
-barren-step needs state place Closed allowed was poisoned = was poisoned
 barren-step needs state place Poisoned allowed was poisoned = refl
-barren-step needs state place NotPoisoned allowed was poisoned = was poisoned
 barren-step needs state place Cleared allowed was poisoned = absurd (cc)
-barren-step needs state place NotCleared allowed was poisoned = was poisoned
-barren-step needs state place NotReady allowed was poisoned = was poisoned
-barren-step needs state place (Showed shown_place) allowed was poisoned = was poisoned
-barren-step needs state place (AnswerTaken value) allowed was poisoned = was poisoned
-barren-step needs state place (Read count poisoned_now) allowed was poisoned = was poisoned
+barren-step needs state place _ allowed was poisoned = was poisoned
 
 -- what a place is registered as behind an event, where an answer names that
 abbrev left_by_named : Event → Option Ask → Registration → Registration
@@ -105,30 +88,19 @@ event-registered : (needs : Needs) (state : AbstractState) (me : ℕ) (event : E
     → AreRegistered (updated registered me (left_by_named event asks was)) (after_event needs state me event).line
 event-registered needs state me (Acquired request) asks registered was allowed once barren are =
     subst (λ (l : List (ℕ × ℕ)). AreRegistered (updated registered me (registration_after_event (Acquired request) asks was)) l) (sym allowed.1) tt
-event-registered needs state me (Refused request) asks registered was allowed once barren are = are
 event-registered needs state me (Joined request) asks registered was allowed once barren are =
     push-registered (updated registered me (Queued request)) me request state.line (others-registered registered me was (Queued request) state.line allowed.2 are)
     (rw (number_same me) refl)
-event-registered needs state me (Released request) asks registered was allowed once barren are = are
-event-registered needs state me (ReleasedNothing request) asks registered was allowed once barren are = are
-event-registered needs state me Lowered asks registered was allowed once barren are = are
-event-registered needs state me NotLowered asks registered was allowed once barren are = are
 event-registered needs state me AskedPoisoned asks registered was allowed once barren are =
     subst (λ (l : List (ℕ × ℕ)). AreRegistered (updated registered me (registration_after_event AskedPoisoned asks was)) l) (sym (barren allowed)) tt
 event-registered needs state me Cancelled asks registered was allowed once barren are =
     others-registered registered me was Idle (without me state.line) (without-out me state.line)
     (without-registered (updated registered me was) me state.line are)
 event-registered needs state me (Granted askers) asks registered was allowed once barren are = drop-registered (updated registered me was) askers state.line are
-event-registered needs state me Closed asks registered was allowed once barren are = are
 event-registered needs state me Poisoned asks registered was allowed once barren are = tt
-event-registered needs state me NotPoisoned asks registered was allowed once barren are = are
-event-registered needs state me Cleared asks registered was allowed once barren are = are
-event-registered needs state me NotCleared asks registered was allowed once barren are = are
-event-registered needs state me NotReady asks registered was allowed once barren are = are
-event-registered needs state me (Showed shown_place) asks registered was allowed once barren are = are
 event-registered needs state me (AnswerTaken value) asks registered was allowed once barren are =
     others-registered registered me was Idle state.line (not-in state me 1 once (ap (λ (a : Option ℕ). one_if (is_some a)) allowed)) are
-event-registered needs state me (Read count poisoned) asks registered was allowed once barren are = are
+event-registered needs state me _ asks registered was allowed once barren are = are
 
 -- a list of events of one place
 pub run-registered : (needs : Needs) (state last : AbstractState) (me : ℕ) (events : List Event) (asks : Option Ask) (registered : ℕ → Registration) (was : Registration)
@@ -166,11 +138,7 @@ begun-registered-line state registered me call held are =
           (sym (updated-same registered me (registration_after_start call (registered me)) (begun-slot call (registered me) slot))) are
       | inr none ↦
           let nothing : held_by me state ≡ 0 = held ∙ ap one_if none in
-          let out : is_in me state.line ≡ false =
-          elim (cases_Bool (is_in me state.line)) [
-            | inl there ↦ absurd (omega (arith, nothing, waits-some me state.line there))
-            | inr out ↦ out
-          ] in
+          let out : is_in me state.line ≡ false = in-none me state.line (omega (arith, nothing)) in
           others-registered registered me (registered me) (registration_after_start call (registered me)) state.line out
           (subst (λ (f : ℕ → Registration). AreRegistered f state.line) (sym (updated-same registered me (registered me) refl)) are)
     ]

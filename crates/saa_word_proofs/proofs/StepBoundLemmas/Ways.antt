@@ -1,58 +1,18 @@
--- Ways along older links: as long as the line that they lead along, and the same on a row whose links are the same.
-use Rattle.std.proofs.Common.{◌≡◌, ℕ, suc, zero, ◌+◌, ◌<◌, ◌≤◌, true, false, ◌==◌, List, [], ◌∷◌, ◌++◌, length, refl, sym, ap, subst, ◌∙◌, arith, inl, inr, ◌⊎◌, length-append}
+-- Ways along older links: as long as the line that they lead along, whatever a store leaves of that line.
+use Rattle.std.proofs.Common.{◌≡◌, ℕ, suc, zero, ◌+◌, ◌<◌, ◌≤◌, true, false, List, [], ◌∷◌, ◌++◌, length, refl, sym, ap, subst, ◌∙◌, arith, inl, inr, length-append}
+use Rattle.std.specs.Prelude.{nat_lt}
 use Rattle.std.proofs.lemmas.Bool.{cases_Bool}
 use Rattle.std.proofs.lemmas.Bool.Decides.{nat_tests}
 use Rattle.saa_core_spec.specs.Object.{one_if, times}
-use Rattle.saa_core_spec.proofs.Counts.{number_same, same_number, number_other, below_true, times-append}
+use Rattle.saa_core_spec.proofs.Counts.{number_same, times-append, one_if-le}
+use Rattle.saa_core_words.specs.declared.line_word.LineWord.{LineWord}
 use Rattle.saa_core_words.specs.Words.{line_word_of}
 use Rattle.saa_word_steps.specs.AbstractState.{is_empty}
 use Rattle.saa_word_proofs.specs.Refinement.{newest}
 use Rattle.saa_word_proofs.specs.Rows.{IsBehind, line_of, updated}
-use Rattle.saa_word_proofs.proofs.RefinementLemmas.Lists.{all-same, newest-last, empty-nil, split-last, behind-front, behind-rest}
-use Rattle.saa_word_proofs.proofs.RefinementLemmas.Rows.{row-other}
+use Rattle.saa_word_proofs.proofs.RefinementLemmas.Lists.{all-same, newest-last, empty-nil, split-last, behind-append, behind-frame, behind-front, behind-rest}
+use Rattle.saa_word_proofs.proofs.RefinementLemmas.Rows.{line-at, line-other}
 use Rattle.saa_word_proofs.specs.StepBound.{is_link, met, way}
-
--- No more stand in a line than there are places, where each stands in it once
-
--- how often all places below a number stand in a line
-abbrev total : ℕ → List (ℕ × ℕ) → ℕ
-total zero line = 0
-total (suc n) line = times n line + total n line
-
-total-out : (n : ℕ) (asker : ℕ × ℕ) (rest : List (ℕ × ℕ)) → n ≤ asker.0 → total n (asker ∷ rest) ≡ total n rest
-total-out zero asker rest out = refl
-total-out (suc n) asker rest out =
-    let apart : asker.0 == n ≡ false = number_other asker.0 n (λ is. absurd (omega (arith, out, is))) in
-    rw apart (omega (arith, total-out n asker rest (omega (arith, out))))
-
-total-in : (n : ℕ) (asker : ℕ × ℕ) (rest : List (ℕ × ℕ)) → asker.0 < n → total n (asker ∷ rest) ≡ suc (total n rest)
-total-in zero asker rest below = absurd (omega (arith, below))
-total-in (suc n) asker rest below =
-    elim (cases_Bool (asker.0 == n)) [
-      | inl same ↦
-          let is : asker.0 ≡ n = same_number asker.0 n same in
-          rw same (omega (arith, total-out n asker rest (omega (arith, is))))
-      | inr apart ↦
-          let less : asker.0 < n = differs asker.0 n apart below in
-          rw apart (omega (arith, total-in n asker rest less))
-    ]
-  where
-    differs : (one other : ℕ) → one == other ≡ false → one < suc other → one < other
-    differs one other apart below = grind (arith, nat_tests)
-
-length-total : (n : ℕ) (line : List (ℕ × ℕ)) → ((place : ℕ) → 0 < times place line → place < n) → length line ≤ total n line
-length-total n [] within = omega arith
-length-total n (asker ∷ rest) within =
-    let here : one_if (asker.0 == asker.0) ≡ 1 = ap one_if (number_same asker.0) in
-    omega (
-      arith,
-      total-in n asker rest (within asker.0 (omega (arith, here))),
-      length-total n rest (λ place there. within place (omega (arith, there))),
-    )
-
-total-once : (n : ℕ) (line : List (ℕ × ℕ)) → ((place : ℕ) → times place line ≤ 1) → total n line ≤ n
-total-once zero line once = omega arith
-total-once (suc n) line once = omega (arith, once n, total-once n line once)
 
 -- A way that leads along a line
 
@@ -60,127 +20,155 @@ total-once (suc n) line once = omega (arith, once n, total-once n line once)
 pub record IsWay (places : ℕ) (row : ℕ → ℕ) (link : ℕ) (line : List (ℕ × ℕ)) : Type 0 where
   pub behind : IsBehind (line_of row) 0 line
   pub leads : link ≡ newest 0 line
-  pub once : (place : ℕ) → times place line ≤ 1
-  pub within : (place : ℕ) → 0 < times place line → place < places
+  pub seats : (place : ℕ) → times place line ≤ one_if (nat_lt place places)
 
-pub length-within : (places : ℕ) (row : ℕ → ℕ) (link : ℕ) (line : List (ℕ × ℕ)) → IsWay places row link line → length line ≤ places
-length-within places row link line leads = omega (arith, length-total places line leads.within, total-once places line leads.once)
+-- how often all places below a number stand in a line
+abbrev total : ℕ → List (ℕ × ℕ) → ℕ
+total zero line = 0
+total (suc n) line = times n line + total n line
+
+total-more : (n : ℕ) (asker : ℕ × ℕ) (rest : List (ℕ × ℕ)) → total n (asker ∷ rest) ≡ one_if (nat_lt asker.0 n) + total n rest
+total-more zero asker rest = grind (arith, nat_tests)
+total-more (suc n) asker rest = grind (arith, nat_tests, total-more n asker rest)
+
+length-total : (n : ℕ) (line : List (ℕ × ℕ)) → ((place : ℕ) → times place line ≤ one_if (nat_lt place n)) → length line ≤ total n line
+length-total n [] seats = omega arith
+length-total n (asker ∷ rest) seats =
+    let fewer = length-total n rest (λ place. omega (arith, seats place)) in
+    omega (arith, total-more n asker rest, seats asker.0, ap one_if (number_same asker.0), fewer)
+
+total-once : (n : ℕ) (line : List (ℕ × ℕ)) → ((place : ℕ) → times place line ≤ 1) → total n line ≤ n
+total-once zero line once = omega arith
+total-once (suc n) line once = omega (arith, once n, total-once n line once)
 
 -- nobody is met from no link
 pub met-nobody : (places : ℕ) (row : ℕ → ℕ) (fuel : ℕ) → met places row fuel 0 ≡ 0
 met-nobody places row zero = refl
 met-nobody places row (suc more) = refl
 
--- a link leads to a place
-pub link-of : (places place : ℕ) → place < places → is_link places (place + 1) ≡ true
-link-of places place below =
-    let some : place + 1 == 0 ≡ false = grind (arith, nat_tests) in
-    rw (some, below_true (place + 1) (places + 1) (omega (arith, below))) refl
+-- a front is led along from its newest, and the line before the newest from the older link of that
+pub way-front : (places : ℕ) (row : ℕ → ℕ) (link : ℕ) (line : List (ℕ × ℕ)) → IsWay places row link line → (front behind : List (ℕ × ℕ))
+    → line ≡ front ++ behind → (at : ℕ) → at ≡ newest 0 front → IsWay places row at front
+way-front places row link line leads front behind is at newest_is = record {
+  behind = behind-front (line_of row) 0 front behind (subst (λ (l : List (ℕ × ℕ)). IsBehind (line_of row) 0 l) is leads.behind);
+  leads = newest_is;
+  seats = λ place. omega (arith, leads.seats place, ap (times place) is, times-append place front behind);
+}
 
-met-length : (places : ℕ) (row : ℕ → ℕ) (fuel : ℕ) (line : List (ℕ × ℕ)) → length line ≤ fuel → IsBehind (line_of row) 0 line
-    → ((place : ℕ) → 0 < times place line → place < places) → met places row fuel (newest 0 line) ≡ length line
-met-length places row zero line room behind within = omega (arith, room)
-met-length places row (suc more) line room behind within =
+pub way-older : (places : ℕ) (row : ℕ → ℕ) (link : ℕ) (before : List (ℕ × ℕ)) (last : ℕ × ℕ) → IsWay places row link (before ++ last ∷ [])
+    → IsWay places row (line_of row last.0).older before
+way-older places row link before last leads =
+    way-front places row link (before ++ last ∷ []) leads before (last ∷ []) refl (line_of row last.0).older
+    (behind-rest (line_of row) 0 before (last ∷ []) leads.behind).1
+
+-- a place that stands in such a line is led to
+link-of : (places place here : ℕ) → 0 < here → here ≤ one_if (nat_lt place places) → is_link places (place + 1) ≡ true
+link-of places place here some seat = grind (arith, nat_tests)
+
+met-length : (places : ℕ) (row : ℕ → ℕ) (fuel link : ℕ) (line : List (ℕ × ℕ)) → length line ≤ fuel → IsWay places row link line
+    → met places row fuel link ≡ length line
+met-length places row zero link line room leads = omega (arith, room)
+met-length places row (suc more) link line room leads =
     elim (cases_Bool (is_empty line)) [
-      | inl none ↦ rw (empty-nil line none) refl
+      | inl none ↦ rw (leads.leads, empty-nil line none) refl
       | inr some ↦
           let parts = split-last line some in
-          subst (λ (l : List (ℕ × ℕ)). met places row (suc more) (newest 0 l) ≡ length l) (sym parts.is)
-          (by-last parts.before parts.last (subst (λ (l : List (ℕ × ℕ)). length l ≤ suc more) parts.is room)
-          (subst (λ (l : List (ℕ × ℕ)). IsBehind (line_of row) 0 l) parts.is behind)
-          (subst (λ (l : List (ℕ × ℕ)). (place : ℕ) → 0 < times place l → place < places) parts.is within)
-          (met-length places row more parts.before))
+          subst (λ (l : List (ℕ × ℕ)). length l ≤ suc more → IsWay places row link l → met places row (suc more) link ≡ length l) (sym parts.is)
+          (by-last parts.before parts.last (met-length places row more (line_of row parts.last.0).older parts.before)) room leads
     ]
   where
-    by-last : (before : List (ℕ × ℕ)) (last : ℕ × ℕ) → length (before ++ last ∷ []) ≤ suc more → IsBehind (line_of row) 0 (before ++ last ∷ [])
-        → ((place : ℕ) → 0 < times place (before ++ last ∷ []) → place < places)
-        → (length before ≤ more → IsBehind (line_of row) 0 before → ((place : ℕ) → 0 < times place before → place < places)
-        → met places row more (newest 0 before) ≡ length before)
-        → met places row (suc more) (newest 0 (before ++ last ∷ [])) ≡ length (before ++ last ∷ [])
-    by-last before last room behind within rest =
+    by-last : (before : List (ℕ × ℕ)) (last : ℕ × ℕ)
+        → (length before ≤ more → IsWay places row (line_of row last.0).older before → met places row more (line_of row last.0).older ≡ length before)
+        → length (before ++ last ∷ []) ≤ suc more → IsWay places row link (before ++ last ∷ [])
+        → met places row (suc more) link ≡ length (before ++ last ∷ [])
+    by-last before last rest room leads =
         let size : length (before ++ last ∷ []) ≡ length before + 1 = length-append before (last ∷ []) in
-        let here : one_if (last.0 == last.0) ≡ 1 = ap one_if (number_same last.0) in
-        let below : last.0 < places = within last.0 (omega (arith, here, times-append last.0 before (last ∷ []))) in
-        let older : (line_word_of (row (last.0 + 1))).older ≡ newest 0 before = (behind-rest (line_of row) 0 before (last ∷ []) behind).1 in
-        rw (
-          newest-last 0 before last,
-          link-of places last.0 below,
-          older,
-          size,
-          rest (omega (arith, room, size)) (behind-front (line_of row) 0 before (last ∷ []) behind)
-              (λ place there. within place (omega (arith, there, times-append place before (last ∷ [])))),
-        )
-        (omega arith)
+        let here : 0 < times last.0 (before ++ last ∷ []) = omega (arith, ap one_if (number_same last.0), times-append last.0 before (last ∷ [])) in
+        let met_rest = rest (omega (arith, room, size)) (way-older places row link before last leads) in
+        rw (leads.leads, newest-last 0 before last, link-of places last.0 _ here (leads.seats last.0), met_rest, size) (omega arith)
 
 -- a way is as long as the line that it leads along
 pub way-length : (places : ℕ) (row : ℕ → ℕ) (link : ℕ) (line : List (ℕ × ℕ)) → IsWay places row link line → way places row link ≡ length line
 way-length places row link line leads =
-    ap (met places row places) leads.leads ∙ met-length places row places line (length-within places row link line leads) leads.behind leads.within
+    let most = total-once places line (λ place. omega (arith, leads.seats place, one_if-le (nat_lt place places))) in
+    met-length places row places link line (omega (arith, most, length-total places line leads.seats)) leads
 
--- the line before the newest is led along from the older link of that
-pub way-older : (places : ℕ) (row : ℕ → ℕ) (link : ℕ) (before : List (ℕ × ℕ)) (last : ℕ × ℕ)
-    → IsWay places row link (before ++ last ∷ []) → IsWay places row (line_of row last.0).older before
-way-older places row link before last leads = record {
-  behind = behind-front (line_of row) 0 before (last ∷ []) leads.behind;
-  leads = (behind-rest (line_of row) 0 before (last ∷ []) leads.behind).1;
-  once = λ place. omega (arith, leads.once place, times-append place before (last ∷ []));
-  within = λ place there. leads.within place (omega (arith, there, times-append place before (last ∷ [])));
-}
+-- one more is met from the newest of a line than from its older link
+pub older-length : (places : ℕ) (row : ℕ → ℕ) (link : ℕ) (line : List (ℕ × ℕ)) → IsWay places row link line → is_empty line ≡ false
+    → way places row link ≡ way places row (line_word_of (row link)).older + 1
+older-length places row link line leads some =
+    let parts = split-last line some in
+    let whole = subst (λ (l : List (ℕ × ℕ)). IsWay places row link l) parts.is leads in
+    omega (
+      arith,
+      ap (λ (n : ℕ). way places row (line_word_of (row n)).older) (whole.leads ∙ newest-last 0 parts.before parts.last),
+      way-length places row link (parts.before ++ parts.last ∷ []) whole,
+      way-length places row (line_of row parts.last.0).older parts.before (way-older places row link parts.before parts.last whole),
+      length-append parts.before (parts.last ∷ []),
+    )
 
--- a front is led along from its newest
-pub way-front : (places : ℕ) (row : ℕ → ℕ) (link : ℕ) (front behind : List (ℕ × ℕ))
-    → IsWay places row link (front ++ behind) → IsWay places row (newest 0 front) front
-way-front places row link front behind leads = record {
-  behind = behind-front (line_of row) 0 front behind leads.behind;
-  leads = refl;
-  once = λ place. omega (arith, leads.once place, times-append place front behind);
-  within = λ place there. leads.within place (omega (arith, there, times-append place front behind));
-}
+-- What a store leaves
 
--- Rows with the same older links
-
-link-is : (places link : ℕ) → is_link places link ≡ true → (0 < link) × (link ≤ places)
-link-is places link leads = (grind (arith, nat_tests), grind (arith, nat_tests))
-
-pub met-same : (places : ℕ) (row new : ℕ → ℕ) (fuel link : ℕ)
+met-same : (places : ℕ) (row new : ℕ → ℕ) (fuel link : ℕ)
     → ((at : ℕ) → 0 < at → at ≤ places → (line_word_of (new at)).older ≡ (line_word_of (row at)).older)
     → met places new fuel link ≡ met places row fuel link
 met-same places row new zero link same = refl
 met-same places row new (suc more) link same =
-    elim (cases_Bool (is_link places link)) [
-      | inl leads ↦
-          let is = link-is places link leads in
-          rw (leads, same link is.0 is.1) (ap suc (met-same places row new more (line_word_of (row link)).older same))
-      | inr ends ↦ rw ends refl
-    ]
+    grind (arith, nat_tests, same link, met-same places row new more (line_word_of (row link)).older same)
 
-pub ways-same : (places : ℕ) (row new : ℕ → ℕ)
-    → ((at : ℕ) → 0 < at → at ≤ places → (line_word_of (new at)).older ≡ (line_word_of (row at)).older) → way places new ≡ way places row
-ways-same places row new same = all-same (way places new) (way places row) (λ link. met-same places row new places link same)
+-- a store that leaves an older link leaves all ways, as one does that isn't made on a line word
+pub ways-store : (places : ℕ) (row : ℕ → ℕ) (index number : ℕ)
+    → (0 < index → index ≤ places → (line_word_of number).older ≡ (line_word_of (row index)).older)
+    → way places (updated row index number) ≡ way places row
+ways-store places row index number same =
+    all-same (way places (updated row index number)) (way places row) (λ link. met-same places row (updated row index number) places link
+    (λ at some within. grind (arith, nat_tests, same)))
 
--- where links are cut, no way gets longer
-pub met-cut : (places : ℕ) (row new : ℕ → ℕ) (fuel link : ℕ)
-    → ((at : ℕ) → 0 < at → at ≤ places → ((line_word_of (new at)).older ≡ (line_word_of (row at)).older) ⊎ ((line_word_of (new at)).older ≡ 0))
-    → met places new fuel link ≤ met places row fuel link
-met-cut places row new zero link cut = omega arith
-met-cut places row new (suc more) link cut =
-    elim (cases_Bool (is_link places link)) [
-      | inl leads ↦
-          let is = link-is places link leads in
-          elim (cut link is.0 is.1) [
-            | inl same ↦ rw (leads, same) (omega (arith, met-cut places row new more (line_word_of (row link)).older cut))
-            | inr none ↦ rw (leads, none, met-nobody places new more) (omega arith)
-          ]
-      | inr ends ↦ rw ends (omega arith)
-    ]
+-- a store to the line word of a place outside a line leaves the links of the line
+abbrev pub IsSameLine : (ℕ → ℕ) → (ℕ → ℕ) → List (ℕ × ℕ) → Type 0
+IsSameLine row new line =
+    (place : ℕ) → 0 < times place line
+    → ((line_of new place).request ≡ (line_of row place).request) × ((line_of new place).older ≡ (line_of row place).older)
 
--- a write to the main word, or behind the line words, leaves all ways
-pub ways-main : (places : ℕ) (row : ℕ → ℕ) (number : ℕ) → way places (updated row 0 number) ≡ way places row
-ways-main places row number =
-    ways-same places row (updated row 0 number) (λ at some within.
-    ap (λ (n : ℕ). (line_word_of n).older) (row-other row 0 number at (λ is. absurd (omega (arith, some, is)))))
+apart-line : (row : ℕ → ℕ) (line : List (ℕ × ℕ)) (place number : ℕ) → times place line ≡ 0 → IsSameLine row (updated row (place + 1) number) line
+apart-line row line place number none other there =
+    let same = line-other row place number other (λ is. absurd (omega (arith, there, none, ap (λ (n : ℕ). times n line) is))) in
+    (ap (λ (w : LineWord). w.request) same, ap (λ (w : LineWord). w.older) same)
 
-pub ways-answer : (places : ℕ) (row : ℕ → ℕ) (index number : ℕ) → places < index → way places (updated row index number) ≡ way places row
-ways-answer places row index number beyond =
-    ways-same places row (updated row index number) (λ at some within.
-    ap (λ (n : ℕ). (line_word_of n).older) (row-other row index number at (λ is. absurd (omega (arith, within, is, beyond)))))
+pub apart-way : (places : ℕ) (row : ℕ → ℕ) (link : ℕ) (line : List (ℕ × ℕ)) (place number : ℕ) → IsWay places row link line
+    → times place line ≡ 0 → IsWay places (updated row (place + 1) number) link line
+apart-way places row link line place number leads none = record {
+  behind = behind-frame (line_of row) (line_of (updated row (place + 1) number)) 0 line (apart-line row line place number none) leads.behind;
+  leads = leads.leads;
+  seats = leads.seats;
+}
+
+-- a place of a line stands in it once
+pub once-in : (places : ℕ) (row : ℕ → ℕ) (link : ℕ) (front rest : List (ℕ × ℕ)) (asker : ℕ × ℕ) → IsWay places row link (front ++ asker ∷ rest)
+    → (times asker.0 front ≡ 0) × (times asker.0 rest ≡ 0)
+once-in places row link front rest asker leads =
+    let both : times asker.0 front + times asker.0 rest ≡ 0 =
+    omega (arith, leads.seats asker.0, one_if-le (nat_lt asker.0 places), ap one_if (number_same asker.0), times-append asker.0 front (asker ∷ rest)) in
+    (omega (arith, both), omega (arith, both))
+
+-- where a place of a line is linked to the newest of some before it, it leads along those and the rest
+pub link-way : (places : ℕ) (row : ℕ → ℕ) (link : ℕ) (front before rest : List (ℕ × ℕ)) (asker : ℕ × ℕ) (number : ℕ)
+    → IsWay places row link (front ++ asker ∷ rest) → IsBehind (line_of row) 0 before → ((place : ℕ) → times place before ≤ times place front)
+    → (line_word_of number).request ≡ (line_of row asker.0).request → (line_word_of number).older ≡ newest 0 before
+    → IsWay places (updated row (asker.0 + 1) number) (newest 0 (before ++ asker ∷ rest)) (before ++ asker ∷ rest)
+link-way places row link front before rest asker number leads behind fewer request older =
+    let stands = behind-rest (line_of row) 0 front (asker ∷ rest) leads.behind in
+    let once = once-in places row link front rest asker leads in
+    let at = line-at row asker.0 number in
+    record {
+      behind = behind-append (line_of (updated row (asker.0 + 1) number)) 0 before (asker ∷ rest)
+          (behind-frame (line_of row) (line_of (updated row (asker.0 + 1) number)) 0 before
+          (apart-line row before asker.0 number (omega (arith, fewer asker.0, once.0))) behind) (
+            ap (λ (w : LineWord). w.request) at ∙ request ∙ stands.0,
+            ap (λ (w : LineWord). w.older) at ∙ older,
+            behind-frame (line_of row) (line_of (updated row (asker.0 + 1) number)) (asker.0 + 1) rest
+                (apart-line row rest asker.0 number once.1) stands.2,
+          );
+      leads = refl;
+      seats = λ place. omega (arith, fewer place, leads.seats place, times-append place front (asker ∷ rest), times-append place before (asker ∷ rest));
+    }
