@@ -1,14 +1,12 @@
 -- What every run keeps of its tally.
-use Rattle.std.proofs.Common.{◌≡◌, ℕ, ◌+◌, ◌≤◌, Bool, true, false, not, ◌&&◌, ◌||◌, List, [], ◌∷◌, take, Option, Some, None, is_some, ◌==◌, ◌-◌, nat_le, refl, sym, ap, subst, ◌∙◌, arith, inl, inr}
-use Rattle.std.proofs.lemmas.Bool.{cases_Bool}
+use Rattle.std.proofs.Common.{◌≡◌, ℕ, ◌+◌, ◌≤◌, Bool, true, false, ◌||◌, List, [], ◌∷◌, take, Option, Some, None, is_some, refl, subst, arith, inl, inr}
 use Rattle.std.proofs.lemmas.Bool.Decides.{nat_tests}
 use Rattle.saa_core_spec.specs.Object.{one_if, times, without}
-use Rattle.saa_core_spec.specs.Values.{closed_value, granted_value}
-use Rattle.saa_core_spec.proofs.Counts.{one_if-le, same_number, other_number, times-append, times-take_drop, times-without_same, times-without_other}
+use Rattle.saa_core_spec.proofs.Counts.{times-append, times-take_drop, times-without_same, times-without_other}
 use Rattle.saa_word_steps.specs.Needs.{Needs, left_count, permit_needs}
 use Rattle.saa_word_steps.specs.declared.event.Event.{Event}
-use Rattle.saa_word_steps.specs.declared.event.Event.TheVariants.{Acquired, Joined, Released, Lowered, AskedPoisoned, Cancelled, Closed, Poisoned, Cleared, Granted, Showed, AnswerTaken}
-use Rattle.saa_word_steps.specs.AbstractState.{AbstractState, IsEnabled, after_event, IsRun, opening, is_in, takes_of, answered_with, with_answer, held_by}
+use Rattle.saa_word_steps.specs.declared.event.Event.TheVariants.{Released, Poisoned, Cleared, Granted, Showed, AnswerTaken}
+use Rattle.saa_word_steps.specs.AbstractState.{AbstractState, IsEnabled, after_event, IsRun, opening, takes_of, answered_with, with_answer, held_by}
 use Rattle.saa_word_steps.proofs.AbstractRuns.{run-keeps, waits-none, waits-some}
 use Rattle.saa_word_proofs.proofs.RefinementLemmas.Lists.{takes-append}
 use Rattle.saa_word_proofs.proofs.OrderLemmas.{once-kept}
@@ -31,44 +29,22 @@ tally-keeps needs P step state tally (event ∷ events) last run p =
 takes-parts : (needs : Needs) (place : ℕ) (line : List (ℕ × ℕ))
     → takes_of needs (line_of_place place line) + takes_of needs (without place line) ≡ takes_of needs line
 takes-parts needs place [] = omega arith
-takes-parts needs place (asker ∷ rest) =
-    elim (cases_Bool (asker.0 == place)) [
-      | inl same ↦ rw same (omega (arith, takes-parts needs place rest))
-      | inr apart ↦ rw apart (omega (arith, takes-parts needs place rest))
-    ]
+takes-parts needs place (asker ∷ rest) = grind (arith, takes-parts needs place rest)
 
 -- permits that are given back were out
 permits-back : (bound count request left : ℕ) → left_count (permit_needs bound) count request ≡ Some left → left + request ≡ count
-permits-back bound count request left is =
-    elim (cases_Bool (nat_le request count)) [
-      | inl enough ↦
-          let now : left_count (permit_needs bound) count request ≡ Some (count - request) = rw enough refl in
-          let both : Some (count - request) ≡ Some left = sym now ∙ is in
-          let same : count - request ≡ left = cc in
-          let least : request ≤ count = grind (arith, nat_tests) in
-          omega (arith, same, least)
-      | inr more ↦
-          let none : left_count (permit_needs bound) count request ≡ None = rw more refl in
-          absurd (cc)
-    ]
+permits-back bound count request left is = grind (arith, nat_tests, is)
 
 balanced-step : (bound withheld : ℕ) (state : AbstractState) (tally : Tally) (place : ℕ) (event : Event)
     → IsEnabled (permit_needs bound) state place event → ConservesPermits (permit_needs bound) withheld state tally
     → ConservesPermits (permit_needs bound) withheld (after_event (permit_needs bound) state place event) (after_counting (permit_needs bound) state tally place event)
-balanced-step bound withheld state tally place (Acquired request) allowed was = omega (arith, was)
 balanced-step bound withheld state tally place (Released request) allowed was =
     let back = permits-back bound state.count request allowed.1.0 allowed.1.1 in
     rw allowed.1.1 (omega (arith, was, back))
-balanced-step bound withheld state tally place Lowered allowed was = (let wrong : false ≡ true = allowed.2 in absurd (cc))
 balanced-step bound withheld state tally place (Granted askers) allowed was =
     omega (arith, was, takes-append (permit_needs bound) tally.pending (take askers state.line))
-balanced-step bound withheld state tally place Cleared allowed was = (let wrong : false ≡ true = allowed.1 in absurd (cc))
-balanced-step bound withheld state tally place (AnswerTaken value) allowed was =
-    elim (cases_Bool (value == granted_value)) [
-      | inl granted ↦ rw granted (omega (arith, was, takes-parts (permit_needs bound) place tally.pending))
-      | inr other ↦ rw other was
-    ]
-balanced-step bound withheld state tally place _ allowed was = was
+balanced-step bound withheld state tally place (AnswerTaken value) allowed was = grind (arith, was, takes-parts (permit_needs bound) place tally.pending)
+balanced-step bound withheld state tally place _ allowed was = grind (arith, allowed, was)
 
 pub run-balanced : (bound withheld : ℕ) (events : List (ℕ × Event)) (last : AbstractState)
     → IsRun (permit_needs bound) (opening withheld) events last
@@ -81,83 +57,34 @@ run-balanced bound withheld events last run =
 
 -- an answer that is a grant is one
 grant-le : (answer : Option ℕ) → one_if (is_grant answer) ≤ one_if (is_some answer)
-grant-le None = omega arith
-grant-le (Some value) = omega (arith, one_if-le (value == granted_value))
+grant-le _ = grind arith
 
 -- the places that were granted, as often as their grants are to be shown or taken, and each place held once at most
 pub record ArePending (state : AbstractState) (tally : Tally) : Type 0 where
   pub once : (place : ℕ) → held_by place state ≤ 1
   pub pending : (place : ℕ) → times place tally.pending ≡ one_if (is_grant (state.due place)) + one_if (is_grant (state.shown place))
 
--- a grant is taken, and counts no more; and so it is of another answer, which never counted
-taken-grant : (needs : Needs) (state : AbstractState) (tally : Tally) (place value : ℕ) → state.shown place ≡ Some value → ArePending state tally → (other : ℕ)
-    → times other (without place tally.pending)
-    ≡ one_if (is_grant (state.due other)) + one_if (is_grant (with_answer place None state.shown other))
-taken-grant needs state tally place value allowed was other =
-    elim (cases_Bool (other == place)) [
-      | inl same ↦
-          let is : place ≡ other = sym (same_number other place same) in
-          let shown : one_if (is_some (state.shown other)) ≡ 1 =
-          ap (λ (n : ℕ). one_if (is_some (state.shown n))) (sym is) ∙ ap (λ (a : Option ℕ). one_if (is_some a)) allowed in
-          let gone : times other (without place tally.pending) ≡ 0 =
-          ap (λ (n : ℕ). times n (without place tally.pending)) (sym is) ∙ times-without_same place tally.pending in
-          rw same (omega (arith, was.once other, shown, gone, grant-le (state.due other)))
-      | inr apart ↦ rw apart (times-without_other place other tally.pending (λ same. other_number other place apart (sym same)) ∙ was.pending other)
-    ]
-
-taken-other : (needs : Needs) (state : AbstractState) (tally : Tally) (place value : ℕ) → value == granted_value ≡ false → state.shown place ≡ Some value
-    → ArePending state tally → (other : ℕ)
-    → times other tally.pending ≡ one_if (is_grant (state.due other)) + one_if (is_grant (with_answer place None state.shown other))
-taken-other needs state tally place value told allowed was other =
-    elim (cases_Bool (other == place)) [
-      | inl same ↦
-          let is : place ≡ other = sym (same_number other place same) in
-          let shown : one_if (is_grant (state.shown other)) ≡ 0 =
-          ap (λ (n : ℕ). one_if (is_grant (state.shown n))) (sym is) ∙ ap (λ (a : Option ℕ). one_if (is_grant a)) allowed ∙ ap one_if told in
-          rw same (omega (arith, was.pending other, shown))
-      | inr apart ↦ rw apart (was.pending other)
-    ]
-
 pending-step : (needs : Needs) (state : AbstractState) (tally : Tally) (place : ℕ) (event : Event) → IsEnabled needs state place event
     → ArePending state tally → (other : ℕ)
     → times other (after_counting needs state tally place event).pending
     ≡ one_if (is_grant ((after_event needs state place event).due other)) + one_if (is_grant ((after_event needs state place event).shown other))
-pending-step needs state tally place (Granted askers) allowed was other =
-    let line = times-append other tally.pending (take askers state.line) in
-    let parts = times-take_drop other askers state.line in
-    elim (cases_Bool (is_in other (take askers state.line))) [
-      | inl some ↦ rw some (omega (
-        arith,
-        was.pending other,
-        was.once other,
-        line,
-        parts,
-        grant-le (state.due other),
-        grant-le (state.shown other),
-        waits-some other (take askers state.line) some,
-      ))
-      | inr out ↦ rw out (omega (arith, was.pending other, line, waits-none other (take askers state.line) out))
-    ]
+pending-step needs state tally place (Granted askers) allowed was other = grind (
+  arith,
+  was.pending other,
+  was.once other,
+  times-append other tally.pending (take askers state.line),
+  times-take_drop other askers state.line,
+  grant-le (state.due other),
+  grant-le (state.shown other),
+  waits-some other (take askers state.line),
+  waits-none other (take askers state.line),
+)
 pending-step needs state tally place Poisoned allowed was other =
-    elim (cases_Bool (is_in other state.line)) [
-      | inl some ↦ rw some
-          (omega (arith, was.pending other, was.once other, grant-le (state.due other), grant-le (state.shown other), waits-some other state.line some))
-      | inr out ↦ rw out (was.pending other)
-    ]
+    grind (arith, was.pending other, was.once other, grant-le (state.due other), grant-le (state.shown other), waits-some other state.line)
 pending-step needs state tally place (Showed shown_place) allowed was other =
-    elim (cases_Bool (other == shown_place)) [
-      | inl same ↦
-          let is : shown_place ≡ other = sym (same_number other shown_place same) in
-          let due : one_if (is_some (state.due other)) ≡ 1 = ap (λ (n : ℕ). one_if (is_some (state.due n))) (sym is) ∙ ap one_if allowed.0 in
-          let now : one_if (is_grant (state.due shown_place)) ≡ one_if (is_grant (state.due other)) = ap (λ (n : ℕ). one_if (is_grant (state.due n))) is in
-          rw same (omega (arith, was.pending other, was.once other, due, now, grant-le (state.shown other)))
-      | inr apart ↦ rw apart (was.pending other)
-    ]
+    grind (arith, nat_tests, allowed, was.pending other, was.once other, grant-le (state.shown other))
 pending-step needs state tally place (AnswerTaken value) allowed was other =
-    elim (cases_Bool (value == granted_value)) [
-      | inl granted ↦ rw granted (taken-grant needs state tally place value allowed was other)
-      | inr told ↦ rw told (taken-other needs state tally place value told allowed was other)
-    ]
+    grind (arith, nat_tests, allowed, was.once other, was.pending other, grant-le (state.due other), times-without_same place tally.pending, times-without_other place other tally.pending)
 pending-step needs state tally place _ allowed was other = was.pending other
 
 pub run-pending : (needs : Needs) (withheld : ℕ) (events : List (ℕ × Event)) (last : AbstractState)
@@ -183,49 +110,32 @@ pub record AreGranted (state : AbstractState) : Type 0 where
 -- these are told a value that they may be told
 answered-told : (poisoned : Bool) (told : ℕ) (askers : List (ℕ × ℕ)) (answers : ℕ → Option ℕ) → IsTold poisoned told → AreTold poisoned answers
     → AreTold poisoned (answered_with told askers answers)
-answered-told poisoned told askers answers may was place value =
-    elim (cases_Bool (is_in place askers)) [
-      | inl some ↦ rw some (λ is. let same : told ≡ value = cc in subst (IsTold poisoned) same may)
-      | inr out ↦ rw out (was place value)
-    ]
+answered-told poisoned told askers answers may was place value = grind (arith, may, was place value)
 
 -- what a place is told it may be told once the semaphore is shut
 told-shut : (poisoned : Bool) (answers : ℕ → Option ℕ) → AreTold poisoned answers → AreTold true answers
-told-shut poisoned answers was place value is = elim (was place value is) [
-  | inl granted ↦ inl granted
-  | inr closed ↦ inr (refl, closed.1)
-]
+told-shut poisoned answers was place value is = grind (arith, is, was place value)
 
 changed-told : (poisoned : Bool) (at : ℕ) (answer : Option ℕ) (answers : ℕ → Option ℕ) → AreTold poisoned answers
     → ((value : ℕ) → answer ≡ Some value → IsTold poisoned value) → AreTold poisoned (with_answer at answer answers)
-changed-told poisoned at answer answers was here place value =
-    elim (cases_Bool (place == at)) [
-      | inl same ↦ rw same (here value)
-      | inr apart ↦ rw apart (was place value)
-    ]
+changed-told poisoned at answer answers was here place value = grind (arith, was place value, here value)
 
 granted-step : (needs : Needs) → needs.is_lock ≡ false → (state : AbstractState) (place : ℕ) (event : Event) → IsEnabled needs state place event
     → AreGranted state → AreGranted (after_event needs state place event)
-granted-step needs semaphore state place (Acquired request) allowed was = record { due = was.due; shown = was.shown }
-granted-step needs semaphore state place (Joined request) allowed was = record { due = was.due; shown = was.shown }
-granted-step needs semaphore state place (Released request) allowed was = record { due = was.due; shown = was.shown }
-granted-step needs semaphore state place Lowered allowed was = record { due = was.due; shown = was.shown }
-granted-step needs semaphore state place Cancelled allowed was = record { due = was.due; shown = was.shown }
 granted-step needs semaphore state place (Granted askers) allowed was =
     record { due = answered-told state.poisoned 0 (take askers state.line) state.due (inl refl) was.due; shown = was.shown }
-granted-step needs semaphore state place Closed allowed was = record { due = was.due; shown = was.shown }
 granted-step needs semaphore state place Poisoned allowed was = record {
   due = answered-told true 2 state.line state.due (inr (refl, refl)) (told-shut state.poisoned state.due was.due);
   shown = told-shut state.poisoned state.shown was.shown;
 }
-granted-step needs semaphore state place Cleared allowed was = (let wrong : true ≡ false = sym allowed.1 ∙ semaphore in absurd (cc))
+granted-step needs semaphore state place Cleared allowed was = absurd (grind (arith, allowed, semaphore))
 granted-step needs semaphore state place (Showed shown_place) allowed was = record {
   due = changed-told state.poisoned shown_place None state.due was.due (λ value is. absurd (cc));
   shown = changed-told state.poisoned shown_place (state.due shown_place) state.shown was.shown (was.due shown_place);
 }
 granted-step needs semaphore state place (AnswerTaken value) allowed was =
     record { due = was.due; shown = changed-told state.poisoned place None state.shown was.shown (λ value is. absurd (cc)) }
-granted-step needs semaphore state place _ allowed was = was
+granted-step needs semaphore state place _ allowed was = record { due = was.due; shown = was.shown }
 
 pub opening-granted : (count : ℕ) → AreGranted (opening count)
 opening-granted count = record { due = λ place value is. absurd (cc); shown = λ place value is. absurd (cc) }
@@ -237,37 +147,16 @@ run-granted needs semaphore withheld events last run =
 
 -- Events of a semaphore
 
-or-false : (b : Bool) → b ≡ (b || false)
-or-false true = refl
-or-false false = refl
-
-or-true : (b : Bool) → true ≡ (b || true)
-or-true true = refl
-or-true false = refl
-
 -- a semaphore is shut behind an event exactly where it was before it, or is by it
 shut-step : (needs : Needs) → needs.is_lock ≡ false → (state : AbstractState) (place : ℕ) (event : Event) → IsEnabled needs state place event
     → (after_event needs state place event).poisoned ≡ (state.poisoned || shuts event)
-shut-step needs semaphore state place Poisoned allowed = or-true state.poisoned
-shut-step needs semaphore state place Cleared allowed = (let wrong : true ≡ false = sym allowed.1 ∙ semaphore in absurd (cc))
-shut-step needs semaphore state place _ allowed = or-false state.poisoned
-
--- what a place may be told
-told-test : (poisoned : Bool) (value : ℕ) → IsTold poisoned value → ((value == granted_value) || (poisoned && (value == closed_value))) ≡ true
-told-test poisoned value told = elim told [
-  | inl granted ↦ rw granted refl
-  | inr closed ↦ rw (closed.0, closed.1) refl
-]
+shut-step needs semaphore state place _ allowed = grind (arith, allowed, semaphore)
 
 -- so each of its events is one of a semaphore
 permits-step : (needs : Needs) → needs.is_lock ≡ false → (state : AbstractState) (place : ℕ) (event : Event) → IsEnabled needs state place event
     → AreGranted state → is_of_permits state.poisoned event ≡ true
-permits-step needs semaphore state place Poisoned allowed was = ap not allowed.1.0
-permits-step needs semaphore state place Lowered allowed was = (let wrong : true ≡ false = sym allowed.2 ∙ semaphore in absurd (cc))
-permits-step needs semaphore state place AskedPoisoned allowed was = allowed
-permits-step needs semaphore state place Cleared allowed was = (let wrong : true ≡ false = sym allowed.1 ∙ semaphore in absurd (cc))
-permits-step needs semaphore state place (AnswerTaken value) allowed was = told-test state.poisoned value (was.shown place value allowed)
-permits-step needs semaphore state place _ allowed was = refl
+permits-step needs semaphore state place (AnswerTaken value) allowed was = grind (arith, was.shown place value allowed)
+permits-step needs semaphore state place _ allowed was = grind (arith, allowed, semaphore)
 
 pub run-permits : (needs : Needs) → needs.is_lock ≡ false → (state : AbstractState) (events : List (ℕ × Event)) (last : AbstractState)
     → AreGranted state → IsRun needs state events last → AreOfPermitsFrom state.poisoned events

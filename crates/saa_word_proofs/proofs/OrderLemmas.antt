@@ -1,24 +1,17 @@
 -- What every run keeps of its queue, its answers and each place's own events.
-use Rattle.std.proofs.Common.{◌≡◌, ℕ, ◌+◌, ◌≤◌, Bool, true, false, if◌then◌else◌, ◌||◌, List, [], ◌∷◌, ◌++◌, length, take, drop, Option, Some, None, is_some, ◌==◌, refl, sym, ap, subst, ◌∙◌, arith, inl, inr, append_assoc, append-nil, take-append-drop, length-append}
-use Rattle.std.proofs.lemmas.Bool.{cases_Bool}
+use Rattle.std.proofs.Common.{◌≡◌, ℕ, ◌+◌, ◌≤◌, Bool, true, false, if◌then◌else◌, ◌||◌, List, [], ◌∷◌, ◌++◌, length, take, drop, Option, Some, None, is_some, ◌==◌, refl, sym, ap, subst, ◌∙◌, arith, append_assoc, append-nil, take-append-drop, length-append}
 use Rattle.std.proofs.lemmas.Bool.Decides.{nat_tests}
 use Rattle.saa_core_spec.specs.Object.{one_if, times, without}
 use Rattle.saa_core_spec.specs.Values.{granted_value, poisoned_value}
-use Rattle.saa_core_spec.proofs.Counts.{number_same, same_number, times-take_drop, times-without_same}
+use Rattle.saa_core_spec.proofs.Counts.{number_same, times-take_drop, times-without_same}
 use Rattle.saa_word_steps.specs.Needs.{Needs}
 use Rattle.saa_word_steps.specs.declared.event.Event.{Event}
 use Rattle.saa_word_steps.specs.declared.event.Event.TheVariants.{Acquired, Joined, Cancelled, Granted, Poisoned, Showed, AnswerTaken}
 use Rattle.saa_word_steps.specs.AbstractState.{AbstractState, IsEnabled, after_event, IsRun, opening, is_in, answered_with, held_by}
 use Rattle.saa_word_steps.proofs.AbstractRuns.{run-once, waits-none, waits-some}
-use Rattle.saa_word_proofs.proofs.RefinementLemmas.Lists.{neither, in-none, in-append}
+use Rattle.saa_word_proofs.proofs.RefinementLemmas.Lists.{in-none, in-append}
 use Rattle.saa_word_proofs.specs.History.{part_of}
 use Rattle.saa_word_proofs.specs.Order.{queue_after, waiting_from, waiting, Answer, each_with, answers_by, answers_from, answers, answered, values_of, cancels, joins, taken, joined_by, joined, is_show_of, shows, TakesInOrder}
-
-swapped_true : (m n : ℕ) → m == n ≡ true → n == m ≡ true
-swapped_true m n h = grind (arith, nat_tests)
-
-swapped_false : (m n : ℕ) → m == n ≡ false → n == m ≡ false
-swapped_false m n h = grind (arith, nat_tests)
 
 -- Runs
 
@@ -69,12 +62,7 @@ no-barging needs withheld before after place request last run =
 
 out-without : (place at : ℕ) (queue : List (ℕ × ℕ)) → is_in place queue ≡ false → is_in place (without at queue) ≡ false
 out-without place at [] out = refl
-out-without place at (waiter ∷ rest) out =
-    let both = neither (waiter.0 == place) (is_in place rest) out in
-    elim (cases_Bool (waiter.0 == at)) [
-      | inl same ↦ rw same (out-without place at rest both.1)
-      | inr apart ↦ rw apart (rw both.0 (out-without place at rest both.1))
-    ]
+out-without place at (waiter ∷ rest) out = grind (arith, out-without place at rest)
 
 out-drop : (place askers : ℕ) (queue : List (ℕ × ℕ)) → is_in place queue ≡ false → is_in place (drop askers queue) ≡ false
 out-drop place askers queue out =
@@ -82,30 +70,18 @@ out-drop place askers queue out =
 
 out-step : (place at : ℕ) (event : Event) (queue : List (ℕ × ℕ)) → (at == place ≡ true → joins (event ∷ []) ≡ false) → is_in place queue ≡ false
     → is_in place (queue_after queue at event) ≡ false
-out-step place at (Joined request) queue another out =
-    elim (cases_Bool (at == place)) [
-      | inl same ↦ let wrong : true ≡ false = another same in absurd (cc)
-      | inr apart ↦ in-append place queue ((at, request) ∷ []) ∙ rw (out, apart) refl
-    ]
+out-step place at (Joined request) queue another out = grind (arith, another, out, in-append place queue ((at, request) ∷ []))
 out-step place at Cancelled queue another out = out-without place at queue out
 out-step place at (Granted askers) queue another out = out-drop place askers queue out
-out-step place at Poisoned queue another out = refl
-out-step place at _ queue another out = out
+out-step place at _ queue another out = grind (arith, out)
 
 joins-first : (event : Event) (later : List Event) → joins (event ∷ later) ≡ false → (joins (event ∷ []) ≡ false) × (joins later ≡ false)
-joins-first (Joined request) later none = absurd (cc)
-joins-first _ later none = (refl, none)
+joins-first _ later none = grind arith
 
 -- a place that doesn't join in a part of a history doesn't join in its first event, nor behind that
 joins-parts : (place : ℕ) (entry : ℕ × Event) (rest : List (ℕ × Event)) → joins (part_of place (entry ∷ rest)) ≡ false
     → (entry.0 == place ≡ true → joins (entry.1 ∷ []) ≡ false) × (joins (part_of place rest) ≡ false)
-joins-parts place entry rest none =
-    elim (cases_Bool (entry.0 == place)) [
-      | inl same ↦
-          let both = joins-first entry.1 (part_of place rest) (rw same at none) in
-          (λ is. both.0, both.1)
-      | inr apart ↦ (λ is. let wrong : true ≡ false = sym is ∙ apart in absurd (cc), rw apart at none)
-    ]
+joins-parts place entry rest none = grind (arith, joins-first entry.1 (part_of place rest))
 
 -- a place that waits in the end, and hasn't joined, waited all along
 run-out : (needs : Needs) (place : ℕ) (state : AbstractState) (history : List (ℕ × Event)) (last : AbstractState) → IsRun needs state history last
@@ -113,17 +89,13 @@ run-out : (needs : Needs) (place : ℕ) (state : AbstractState) (history : List 
 run-out needs place state [] last run none out = subst (λ (z : AbstractState). is_in place z.line ≡ false) run out
 run-out needs place state (entry ∷ rest) last run none out =
     let parts = joins-parts place entry rest none in
-    let next : is_in place (after_event needs state entry.0 entry.1).line ≡ false =
-    ap (is_in place) (queue-step needs state entry.0 entry.1) ∙ out-step place entry.0 entry.1 state.line parts.0 out in
-    run-out needs place (after_event needs state entry.0 entry.1) rest last run.1 parts.1 next
+    run-out needs place (after_event needs state entry.0 entry.1) rest last run.1 parts.1
+    (ap (is_in place) (queue-step needs state entry.0 entry.1) ∙ out-step place entry.0 entry.1 state.line parts.0 out)
 
 pub run-in : (needs : Needs) (place : ℕ) (state : AbstractState) (history : List (ℕ × Event)) (last : AbstractState) → IsRun needs state history last
     → joins (part_of place history) ≡ false → is_in place last.line ≡ true → is_in place state.line ≡ true
 run-in needs place state history last run none some =
-    elim (cases_Bool (is_in place state.line)) [
-      | inl here ↦ here
-      | inr out ↦ let wrong : true ≡ false = sym some ∙ run-out needs place state history last run none out in absurd (cc)
-    ]
+    grind (arith, some, run-out needs place state history last run none)
 
 pub not-barged : (needs : Needs) (withheld : ℕ) (before between after : List (ℕ × Event)) (waiter other request : ℕ) (last : AbstractState)
     → IsRun needs (opening withheld) (before ++ (other, Acquired request) ∷ between ++ (waiter, Cancelled) ∷ after) last
@@ -131,14 +103,7 @@ pub not-barged : (needs : Needs) (withheld : ℕ) (before between after : List (
 not-barged needs withheld before between after waiter other request last run =
     let leaves = split-run needs (opening withheld) (before ++ (other, Acquired request) ∷ between) ((waiter, Cancelled) ∷ after) last run in
     let gets = split-run needs (opening withheld) before ((other, Acquired request) ∷ between) leaves.middle leaves.first in
-    elim (cases_Bool (joins (part_of waiter between))) [
-      | inl some ↦ some
-      | inr none ↦
-          let waits : is_in waiter gets.middle.line ≡ true =
-          run-in needs waiter (after_event needs gets.middle other (Acquired request)) between leaves.middle gets.second.1 none leaves.second.0 in
-          let wrong : true ≡ false = sym waits ∙ ap (is_in waiter) gets.second.0.1 in
-          absurd (cc)
-    ]
+    grind (arith, run-in needs waiter (after_event needs gets.middle other (Acquired request)) between leaves.middle gets.second.1, leaves.second.0, ap (is_in waiter) gets.second.0.1)
 
 -- What later events of a place say of its registration
 
@@ -149,24 +114,16 @@ decides Cancelled = true
 decides _ = false
 
 cancels-past : (event : Event) (later : List Event) → decides event ≡ false → cancels (event ∷ later) ≡ cancels later
-cancels-past (Joined request) later none = absurd (cc)
-cancels-past Cancelled later none = absurd (cc)
-cancels-past _ later none = refl
+cancels-past _ later none = grind arith
 
 part-past : (other place : ℕ) (event : Event) (rest : List (ℕ × Event)) → decides event ≡ false
     → cancels (part_of other ((place, event) ∷ rest)) ≡ cancels (part_of other rest)
-part-past other place event rest none =
-    elim (cases_Bool (place == other)) [
-      | inl same ↦ rw same (cancels-past event (part_of other rest) none)
-      | inr apart ↦ rw apart refl
-    ]
+part-past other place event rest none = grind (arith, cancels-past event (part_of other rest) none)
 
 -- a place out of the queue doesn't cancel before it joins
 cancels-out : (needs : Needs) (state : AbstractState) (place : ℕ) (event : Event) (later : List Event) → IsEnabled needs state place event
     → is_in place state.line ≡ false → (joins (event ∷ []) ≡ false → cancels later ≡ false) → cancels (event ∷ later) ≡ false
-cancels-out needs state place (Joined request) later allowed out rest = refl
-cancels-out needs state place Cancelled later allowed out rest = (let wrong : true ≡ false = sym allowed ∙ out in absurd (cc))
-cancels-out needs state place _ later allowed out rest = rest refl
+cancels-out needs state place _ later allowed out rest = grind arith
 
 pub run-cancels : (needs : Needs) (place : ℕ) (state : AbstractState) (history : List (ℕ × Event)) (last : AbstractState) → IsRun needs state history last
     → is_in place state.line ≡ false → cancels (part_of place history) ≡ false
@@ -175,13 +132,7 @@ run-cancels needs place state (entry ∷ rest) last run out =
     let next : (entry.0 == place ≡ true → joins (entry.1 ∷ []) ≡ false) → cancels (part_of place rest) ≡ false = λ another.
     run-cancels needs place (after_event needs state entry.0 entry.1) rest last run.1
     (ap (is_in place) (queue-step needs state entry.0 entry.1) ∙ out-step place entry.0 entry.1 state.line another out) in
-    elim (cases_Bool (entry.0 == place)) [
-      | inl same ↦
-          let is : entry.0 ≡ place = same_number entry.0 place same in
-          let out_here : is_in entry.0 state.line ≡ false = subst (λ (n : ℕ). is_in n state.line ≡ false) (sym is) out in
-          rw same (cancels-out needs state entry.0 entry.1 (part_of place rest) run.0 out_here (λ none. next (λ same_again. none)))
-      | inr apart ↦ rw apart (next (λ is. let wrong : true ≡ false = sym is ∙ apart in absurd (cc)))
-    ]
+    grind (arith, nat_tests, out, cancels-out needs state entry.0 entry.1 (part_of place rest) run.0, next)
 
 -- Those of a queue who stay in it, as later events say
 
@@ -193,24 +144,15 @@ remaining (waiter ∷ rest) history = if cancels (part_of waiter.0 history) then
 remaining-append : (front behind : List (ℕ × ℕ)) (history : List (ℕ × Event))
     → remaining (front ++ behind) history ≡ remaining front history ++ remaining behind history
 remaining-append [] behind history = refl
-remaining-append (waiter ∷ rest) behind history =
-    elim (cases_Bool (cancels (part_of waiter.0 history))) [
-      | inl goes ↦ rw goes (remaining-append rest behind history)
-      | inr stays ↦ rw stays (ap (λ (l : List (ℕ × ℕ)). waiter ∷ l) (remaining-append rest behind history))
-    ]
+remaining-append (waiter ∷ rest) behind history = grind (arith, remaining-append rest behind history)
 
 remaining-same : (queue : List (ℕ × ℕ)) (one other : List (ℕ × Event))
     → ((place : ℕ) → is_in place queue ≡ true → cancels (part_of place one) ≡ cancels (part_of place other)) → remaining queue one ≡ remaining queue other
 remaining-same [] one other same = refl
 remaining-same (waiter ∷ rest) one other same =
     let here : cancels (part_of waiter.0 one) ≡ cancels (part_of waiter.0 other) = same waiter.0 (rw (number_same waiter.0) refl) in
-    let behind : remaining rest one ≡ remaining rest other =
-    remaining-same rest one other
-    (λ place some. same place (elim (cases_Bool (waiter.0 == place)) [ inl is ↦ rw is refl | inr apart ↦ rw apart some ])) in
-    elim (cases_Bool (cancels (part_of waiter.0 other))) [
-      | inl goes ↦ rw (here, goes) behind
-      | inr stays ↦ rw (here, stays) (ap (λ (l : List (ℕ × ℕ)). waiter ∷ l) behind)
-    ]
+    let behind : remaining rest one ≡ remaining rest other = remaining-same rest one other (λ place some. same place (grind (arith, some))) in
+    grind (arith, here, behind)
 
 -- all of a queue stay where none cancels
 remaining-all : (queue : List (ℕ × ℕ)) (history : List (ℕ × Event)) → ((place : ℕ) → is_in place queue ≡ true → cancels (part_of place history) ≡ false)
@@ -218,22 +160,13 @@ remaining-all : (queue : List (ℕ × ℕ)) (history : List (ℕ × Event)) → 
 remaining-all [] history stay = refl
 remaining-all (waiter ∷ rest) history stay =
     let here : cancels (part_of waiter.0 history) ≡ false = stay waiter.0 (rw (number_same waiter.0) refl) in
-    rw here (ap (λ (l : List (ℕ × ℕ)). waiter ∷ l)
-    (remaining-all rest history (λ place some. stay place (elim (cases_Bool (waiter.0 == place)) [ inl is ↦ rw is refl | inr apart ↦ rw apart some ]))))
+    let behind : remaining rest history ≡ rest = remaining-all rest history (λ place some. stay place (grind (arith, some))) in
+    grind (arith, here, behind)
 
 remaining-left : (place : ℕ) (queue : List (ℕ × ℕ)) (rest : List (ℕ × Event))
     → remaining queue ((place, Cancelled) ∷ rest) ≡ remaining (without place queue) rest
 remaining-left place [] rest = refl
-remaining-left place (waiter ∷ behind) rest =
-    elim (cases_Bool (waiter.0 == place)) [
-      | inl same ↦ rw (same, swapped_true waiter.0 place same) (remaining-left place behind rest)
-      | inr apart ↦
-          rw (apart, swapped_false waiter.0 place apart) (
-          elim (cases_Bool (cancels (part_of waiter.0 rest))) [
-            | inl goes ↦ rw goes (remaining-left place behind rest)
-            | inr stays ↦ rw stays (ap (λ (l : List (ℕ × ℕ)). waiter ∷ l) (remaining-left place behind rest))
-          ])
-    ]
+remaining-left place (waiter ∷ behind) rest = grind (arith, remaining-left place behind rest, nat_tests)
 
 answered-each : (value : ℕ) (queue : List (ℕ × ℕ)) → answered (each_with value queue) ≡ queue
 answered-each value [] = refl
@@ -263,13 +196,7 @@ remaining-step : (needs : Needs) (state : AbstractState) (place : ℕ) (event : 
 remaining-step needs state place (Joined request) rest last allowed run once =
     let past : remaining state.line ((place, Joined request) ∷ rest) ≡ remaining state.line rest =
     remaining-same state.line ((place, Joined request) ∷ rest) rest (λ other some.
-    elim (cases_Bool (place == other)) [
-      | inl same ↦
-          let is : place ≡ other = same_number place other same in
-          let wrong : true ≡ false = sym some ∙ subst (λ (n : ℕ). is_in n state.line ≡ false) is allowed.2 in
-          absurd (cc)
-      | inr apart ↦ rw apart refl
-    ]) in
+    grind (arith, nat_tests, allowed, some)) in
     ap (λ (l : List (ℕ × ℕ)). l ++ joined_by place (Joined request) (part_of place rest)) past
     ∙ sym (remaining-append state.line ((place, request) ∷ []) rest)
 remaining-step needs state place Cancelled rest last allowed run once =
@@ -324,12 +251,10 @@ kept_by None = []
 kept_by (Some value) = value ∷ []
 
 length-kept : (answer : Option ℕ) → length (kept_by answer) ≡ one_if (is_some answer)
-length-kept None = omega arith
-length-kept (Some value) = omega arith
+length-kept _ = grind arith
 
 none-kept : (answer : Option ℕ) → one_if (is_some answer) ≡ 0 → answer ≡ None
-none-kept None none = refl
-none-kept (Some value) none = absurd (omega (arith, none))
+none-kept _ none = grind arith
 
 -- what a place has of its answers: one that is shown, or one that is to be shown
 abbrev pub has_of : AbstractState → ℕ → List ℕ
@@ -337,67 +262,46 @@ has_of state place = kept_by (state.shown place) ++ kept_by (state.due place)
 
 values-append : (place : ℕ) (front behind : List Answer) → values_of place (front ++ behind) ≡ values_of place front ++ values_of place behind
 values-append place [] behind = refl
-values-append place (answer ∷ rest) behind =
-    elim (cases_Bool (answer.waiter.0 == place)) [
-      | inl same ↦ rw same (ap (λ (l : List ℕ). answer.value ∷ l) (values-append place rest behind))
-      | inr apart ↦ rw apart (values-append place rest behind)
-    ]
+values-append place (answer ∷ rest) behind = grind (arith, values-append place rest behind)
 
 values-none : (place value : ℕ) (queue : List (ℕ × ℕ)) → is_in place queue ≡ false → values_of place (each_with value queue) ≡ []
 values-none place value [] out = refl
-values-none place value (waiter ∷ rest) out =
-    let both = neither (waiter.0 == place) (is_in place rest) out in rw both.0 (values-none place value rest both.1)
+values-none place value (waiter ∷ rest) out = grind (arith, values-none place value rest)
 
 values-some : (place value : ℕ) (queue : List (ℕ × ℕ)) → times place queue ≤ 1 → is_in place queue ≡ true
     → values_of place (each_with value queue) ≡ value ∷ []
 values-some place value [] once some = absurd (cc)
-values-some place value (waiter ∷ rest) once some =
-    elim (cases_Bool (waiter.0 == place)) [
-      | inl same ↦
-          let none : is_in place rest ≡ false = in-none place rest (omega (arith, once, ap one_if same)) in
-          rw same (ap (λ (l : List ℕ). value ∷ l) (values-none place value rest none))
-      | inr apart ↦ rw apart (values-some place value rest (omega (arith, once)) (rw apart at some))
-    ]
+values-some place value (waiter ∷ rest) once some = grind (arith, values-some place value rest, values-none place value rest, in-none place rest)
 
 -- what a place takes by an event of a place
 abbrev pub taken_by : ℕ → ℕ → Event → List ℕ
 taken_by other place event = if place == other then taken (event ∷ []) else []
 
 taken-first : (event : Event) (later : List Event) → taken (event ∷ later) ≡ taken (event ∷ []) ++ taken later
-taken-first (AnswerTaken value) later = refl
-taken-first _ later = refl
+taken-first _ later = grind arith
 
 taken-step : (other place : ℕ) (event : Event) (rest : List (ℕ × Event))
     → taken (part_of other ((place, event) ∷ rest)) ≡ taken_by other place event ++ taken (part_of other rest)
-taken-step other place event rest =
-    elim (cases_Bool (place == other)) [
-      | inl same ↦ rw same (taken-first event (part_of other rest))
-      | inr apart ↦ rw apart refl
-    ]
-
-none-if : (test : Bool) → ◌≡◌ {A = List ℕ} (if test then [] else []) []
-none-if true = refl
-none-if false = refl
+taken-step other place event rest = grind (arith, taken-first event (part_of other rest))
 
 unchanged : (test : Bool) (has : List ℕ) → has ++ [] ≡ (if test then [] else []) ++ has
-unchanged test has = append-nil has ∙ ap (λ (l : List ℕ). l ++ has) (sym (none-if test))
+unchanged test has = grind (arith, append-nil has)
 
 -- a place that is answered gets that one answer, and no other
-answers-step : (state : AbstractState) (other value : ℕ) (front : List (ℕ × ℕ)) (test : Bool) → times other front + one_if (is_some (state.due other)) + one_if (is_some (state.shown other)) ≤ 1
+answers-step : (state : AbstractState) (other value : ℕ) (front : List (ℕ × ℕ)) (test : Bool)
+    → times other front + one_if (is_some (state.due other)) + one_if (is_some (state.shown other)) ≤ 1
     → has_of state other ++ values_of other (each_with value front)
     ≡ (if test then [] else []) ++ (kept_by (state.shown other) ++ kept_by (answered_with value front state.due other))
-answers-step state other value front test once =
-    elim (cases_Bool (is_in other front)) [
-      | inl some ↦
-          let waits = waits-some other front some in
-          let due : state.due other ≡ None = none-kept (state.due other) (omega (arith, once, waits)) in
-          let shown : state.shown other ≡ None = none-kept (state.shown other) (omega (arith, once, waits)) in
-          let one : values_of other (each_with value front) ≡ value ∷ [] = values-some other value front (omega (arith, once)) some in
-          rw (some, due, shown, one, none-if test) refl
-      | inr out ↦
-          let none : values_of other (each_with value front) ≡ [] = values-none other value front out in
-          rw (out, none) (unchanged test (has_of state other))
-    ]
+answers-step state other value front test once = grind (
+  arith,
+  once,
+  waits-some other front,
+  none-kept (state.due other),
+  none-kept (state.shown other),
+  values-some other value front,
+  values-none other value front,
+  append-nil (has_of state other),
+)
 
 -- what a place has, and is answered by an event, is what it takes by that, and has behind it
 has-step : (needs : Needs) (state : AbstractState) (other place : ℕ) (event : Event) → IsEnabled needs state place event → AreOnce state
@@ -409,24 +313,9 @@ has-step needs state other place (Granted askers) allowed once =
 has-step needs state other place Poisoned allowed once =
     answers-step state other poisoned_value state.line (place == other) (omega (arith, once other))
 has-step needs state other place (Showed shown_place) allowed once =
-    elim (cases_Bool (other == shown_place)) [
-      | inl same ↦
-          let is : shown_place ≡ other = sym (same_number other shown_place same) in
-          let due : one_if (is_some (state.due other)) ≡ 1 = ap (λ (n : ℕ). one_if (is_some (state.due n))) (sym is) ∙ ap one_if allowed.0 in
-          let shown : state.shown other ≡ None = none-kept (state.shown other) (omega (arith, once other, due)) in
-          let moved : state.due shown_place ≡ state.due other = ap state.due is in
-          rw (same, shown, moved, none-if (place == other)) refl
-      | inr apart ↦ rw apart (unchanged (place == other) (has_of state other))
-    ]
+    grind (arith, nat_tests, allowed, once other, none-kept (state.shown other), append-nil (has_of state other))
 has-step needs state other place (AnswerTaken value) allowed once =
-    elim (cases_Bool (other == place)) [
-      | inl same ↦
-          let is : place ≡ other = sym (same_number other place same) in
-          let shown : state.shown other ≡ Some value = ap state.shown (sym is) ∙ allowed in
-          let due : state.due other ≡ None = none-kept (state.due other) (omega (arith, once other, ap (λ (a : Option ℕ). one_if (is_some a)) shown)) in
-          rw (same, swapped_true other place same, shown, due) refl
-      | inr apart ↦ rw (apart, swapped_false other place apart) (append-nil (has_of state other))
-    ]
+    grind (arith, nat_tests, allowed, once other, none-kept (state.due other), append-nil (has_of state other))
 has-step needs state other place _ allowed once = unchanged (place == other) (has_of state other)
 
 pub run-taken : (needs : Needs) (place : ℕ) (state : AbstractState) (history : List (ℕ × Event)) (last : AbstractState) → IsRun needs state history last → AreOnce state
@@ -451,32 +340,11 @@ run-taken needs place state (entry ∷ rest) last run once =
 
 -- What is shown is taken, or is there still
 
-length-none : (test : Bool) → length {A = ℕ} (if test then [] else []) ≡ 0
-length-none true = omega arith
-length-none false = omega arith
-
 shown-step : (needs : Needs) (state : AbstractState) (other place : ℕ) (event : Event) → IsEnabled needs state place event → AreOnce state
     → one_if (is_some (state.shown other)) + one_if (is_show_of other event)
     ≡ length (taken_by other place event) + one_if (is_some ((after_event needs state place event).shown other))
-shown-step needs state other place (Showed shown_place) allowed once =
-    elim (cases_Bool (other == shown_place)) [
-      | inl same ↦
-          let is : shown_place ≡ other = sym (same_number other shown_place same) in
-          let due : one_if (is_some (state.due other)) ≡ 1 = ap (λ (n : ℕ). one_if (is_some (state.due n))) (sym is) ∙ ap one_if allowed.0 in
-          let moved : one_if (is_some (state.due shown_place)) ≡ 1 = ap one_if allowed.0 in
-          rw (same, swapped_true other shown_place same) (omega (arith, once other, due, moved, length-none (place == other)))
-      | inr apart ↦ rw (apart, swapped_false other shown_place apart) (omega (arith, length-none (place == other)))
-    ]
-shown-step needs state other place (AnswerTaken value) allowed once =
-    elim (cases_Bool (other == place)) [
-      | inl same ↦
-          let is : place ≡ other = sym (same_number other place same) in
-          let shown : one_if (is_some (state.shown other)) ≡ 1 =
-          ap (λ (n : ℕ). one_if (is_some (state.shown n))) (sym is) ∙ ap (λ (a : Option ℕ). one_if (is_some a)) allowed in
-          rw (same, swapped_true other place same) (omega (arith, shown))
-      | inr apart ↦ rw (apart, swapped_false other place apart) (omega arith)
-    ]
-shown-step needs state other place _ allowed once = omega (arith, length-none (place == other))
+shown-step needs state other place (Showed shown_place) allowed once = grind (arith, nat_tests, allowed, once other)
+shown-step needs state other place _ allowed once = grind (arith, nat_tests, allowed)
 
 pub run-shown : (needs : Needs) (place : ℕ) (state : AbstractState) (history : List (ℕ × Event)) (last : AbstractState) → IsRun needs state history last → AreOnce state
     → one_if (is_some (state.shown place)) + shows place history ≡ length (taken (part_of place history)) + one_if (is_some (last.shown place))
@@ -518,115 +386,47 @@ is_ahead one place (waiter ∷ rest) = if waiter.0 == place then false else ((wa
 
 ahead-some : (one place : ℕ) (front behind : List (ℕ × ℕ)) → is_in place front ≡ true → is_ahead one place (front ++ behind) ≡ is_ahead one place front
 ahead-some one place [] behind some = absurd (cc)
-ahead-some one place (waiter ∷ rest) behind some =
-    elim (cases_Bool (waiter.0 == place)) [
-      | inl same ↦ rw same refl
-      | inr apart ↦ rw apart (ap (λ (b : Bool). (waiter.0 == one) || b) (ahead-some one place rest behind (rw apart at some)))
-    ]
+ahead-some one place (waiter ∷ rest) behind some = grind (arith, ahead-some one place rest behind)
 
 -- a place in front is ahead of one behind
 ahead-none : (one place : ℕ) (front behind : List (ℕ × ℕ)) → is_in place front ≡ false → is_ahead one place (front ++ behind) ≡ false
     → (is_in one front ≡ false) × (is_ahead one place behind ≡ false)
 ahead-none one place [] behind out none = (refl, none)
-ahead-none one place (waiter ∷ rest) behind out none =
-    let parts = neither (waiter.0 == place) (is_in place rest) out in
-    let now : (waiter.0 == one) || is_ahead one place (rest ++ behind) ≡ false = rw parts.0 at none in
-    let both = neither (waiter.0 == one) (is_ahead one place (rest ++ behind)) now in
-    let later = ahead-none one place rest behind parts.1 both.1 in
-    (rw both.0 later.0, later.1)
+ahead-none one place (waiter ∷ rest) behind out none = grind (arith, ahead-none one place rest behind)
 
 ahead-without : (one place at : ℕ) (queue : List (ℕ × ℕ)) → at == place ≡ false → is_ahead one place queue ≡ false
     → is_ahead one place (without at queue) ≡ false
 ahead-without one place at [] apart none = refl
-ahead-without one place at (waiter ∷ rest) apart none =
-    elim (cases_Bool (waiter.0 == at)) [
-      | inl same ↦
-          let is : at ≡ waiter.0 = sym (same_number waiter.0 at same) in
-          let other : waiter.0 == place ≡ false = ap (λ (n : ℕ). n == place) (sym is) ∙ apart in
-          let both = neither (waiter.0 == one) (is_ahead one place rest) (rw other at none) in
-          rw same (ahead-without one place at rest apart both.1)
-      | inr differs ↦
-          rw differs (
-          elim (cases_Bool (waiter.0 == place)) [
-            | inl here ↦ rw here refl
-            | inr there ↦
-                let both = neither (waiter.0 == one) (is_ahead one place rest) (rw there at none) in
-                rw (there, both.0) (ahead-without one place at rest apart both.1)
-          ])
-    ]
+ahead-without one place at (waiter ∷ rest) apart none = grind (arith, nat_tests, ahead-without one place at rest apart)
 
 -- who joins isn't ahead of anybody
 ahead-joined : (one place request : ℕ) (queue : List (ℕ × ℕ)) → is_in one queue ≡ false → is_in place (queue ++ (one, request) ∷ []) ≡ true
     → is_ahead one place (queue ++ (one, request) ∷ []) ≡ false
-ahead-joined one place request [] out some =
-    elim (cases_Bool (one == place)) [
-      | inl same ↦ rw same refl
-      | inr apart ↦ let wrong : false ≡ true = rw apart at some in absurd (cc)
-    ]
-ahead-joined one place request (waiter ∷ rest) out some =
-    let parts = neither (waiter.0 == one) (is_in one rest) out in
-    elim (cases_Bool (waiter.0 == place)) [
-      | inl same ↦ rw same refl
-      | inr apart ↦ rw (apart, parts.0) (ahead-joined one place request rest parts.1 (rw apart at some))
-    ]
+ahead-joined one place request [] out some = grind arith
+ahead-joined one place request (waiter ∷ rest) out some = grind (arith, ahead-joined one place request rest)
 
 -- a place isn't ahead of another one, and has no answer
-pub record IsBehind (one place : ℕ) (state : AbstractState) : Type 0 where
-  pub behind : is_ahead one place state.line ≡ false
-  pub due : state.due one ≡ None
-  pub shown : state.shown one ≡ None
+abbrev IsBehind : ℕ → ℕ → AbstractState → Type 0
+IsBehind one place state = (is_ahead one place state.line ≡ false) × (state.due one ≡ None) × (state.shown one ≡ None)
 
 -- one event keeps that, and the place takes nothing by it, where the other one waits before it and behind it
 behind-step : (needs : Needs) (one place : ℕ) (state : AbstractState) (at : ℕ) (event : Event) → IsEnabled needs state at event → AreOnce state
     → is_in place state.line ≡ true → is_in place (after_event needs state at event).line ≡ true → IsBehind one place state
     → IsBehind one place (after_event needs state at event) × (taken_by one at event ≡ [])
-behind-step needs one place state at (Joined request) allowed once before after was = (
-  record { behind = ahead-some one place state.line ((at, request) ∷ []) before ∙ was.behind; due = was.due; shown = was.shown },
-  none-if (at == one),
-)
+behind-step needs one place state at (Joined request) allowed once before after was = grind (arith, before, was, ahead-some one place state.line ((at, request) ∷ []))
 behind-step needs one place state at Cancelled allowed once before after was =
-    elim (cases_Bool (at == place)) [
-      | inl same ↦
-          let is : at ≡ place = same_number at place same in
-          let gone : is_in place (without at state.line) ≡ false =
-          subst (λ (n : ℕ). is_in n (without at state.line) ≡ false) is
-          (in-none at (without at state.line) (times-without_same at state.line)) in
-          let wrong : true ≡ false = sym after ∙ gone in
-          absurd (cc)
-      | inr apart ↦ (
-        record { behind = ahead-without one place at state.line apart was.behind; due = was.due; shown = was.shown },
-        none-if (at == one),
-      )
-    ]
-behind-step needs one place state at (Granted askers) allowed once before after was =
-    let stays = waits-some place (drop askers state.line) after in
-    let out : is_in place (take askers state.line) ≡ false =
-    in-none place (take askers state.line) (omega (arith, once place, stays, times-take_drop place askers state.line)) in
-    let whole : is_ahead one place (take askers state.line ++ drop askers state.line) ≡ false =
-    ap (is_ahead one place) (take-append-drop askers state.line) ∙ was.behind in
-    let parts = ahead-none one place (take askers state.line) (drop askers state.line) out whole in
-    (record { behind = parts.1; due = rw parts.0 was.due; shown = was.shown }, none-if (at == one))
-behind-step needs one place state at Poisoned allowed once before after was = absurd (cc)
-behind-step needs one place state at (Showed shown_place) allowed once before after was =
-    elim (cases_Bool (one == shown_place)) [
-      | inl same ↦
-          let none : state.due shown_place ≡ None = ap state.due (sym (same_number one shown_place same)) ∙ was.due in
-          (record { behind = was.behind; due = rw same refl; shown = rw same none }, none-if (at == one))
-      | inr apart ↦ (record { behind = was.behind; due = rw apart was.due; shown = rw apart was.shown }, none-if (at == one))
-    ]
-behind-step needs one place state at (AnswerTaken value) allowed once before after was =
-    elim (cases_Bool (at == one)) [
-      | inl same ↦
-          let is : at ≡ one = same_number at one same in
-          let wrong : Some value ≡ None = sym allowed ∙ ap state.shown is ∙ was.shown in
-          absurd (cc)
-      | inr apart ↦ (
-        record { behind = was.behind; due = was.due; shown = rw (swapped_false at one apart) was.shown },
-        rw apart refl,
-      )
-    ]
-behind-step needs one place state at _ allowed once before after was =
-    (record { behind = was.behind; due = was.due; shown = was.shown }, none-if (at == one))
+    grind (arith, nat_tests, was, after, ahead-without one place at state.line, times-without_same at state.line, in-none at (without at state.line))
+behind-step needs one place state at (Granted askers) allowed once before after was = grind (
+  arith,
+  was,
+  once place,
+  waits-some place (drop askers state.line) after,
+  times-take_drop place askers state.line,
+  in-none place (take askers state.line),
+  take-append-drop askers state.line,
+  ahead-none one place (take askers state.line) (drop askers state.line),
+)
+behind-step needs one place state at _ allowed once before after was = grind (arith, nat_tests, allowed, after, was)
 
 pub run-behind : (needs : Needs) (one place : ℕ) (state : AbstractState) (history : List (ℕ × Event)) (last : AbstractState) → IsRun needs state history last
     → AreOnce state → joins (part_of place history) ≡ false → is_in place last.line ≡ true → IsBehind one place state → taken (part_of one history) ≡ []
@@ -652,4 +452,4 @@ not-overtaken needs withheld before between after first second request last run 
     let waits = run-in needs first state between leaves.middle joining.second.1 none leaves.second.0 in
     run-behind needs second first state between leaves.middle joining.second.1
     (once-kept needs joining.middle second (Joined request) allowed once) none leaves.second.0
-    (record { behind = ahead-joined second first request joining.middle.line allowed.2 waits; due = allowed.3; shown = allowed.4 })
+    (ahead-joined second first request joining.middle.line allowed.2 waits, allowed.3, allowed.4)

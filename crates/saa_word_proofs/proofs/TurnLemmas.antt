@@ -1,8 +1,8 @@
 -- Each event of those who take turns at the whole keeps that a turn is taken, or one is granted, exactly where the whole is held.
 use Rattle.std.proofs.Common.{◌≡◌, ℕ, zero, suc, ◌+◌, ◌<◌, ◌≤◌, ◌⊎◌, ◌==◌, ◌||◌, not, Bool, true, false, if◌then◌else◌, List, [], ◌∷◌, ◌++◌, length, take, drop, Option, Some, None, is_some, refl, sym, ap, subst, ◌∙◌, arith, inl, inr}
-use Rattle.std.proofs.lemmas.Bool.{cases_Bool}
-use Rattle.saa_core_spec.specs.Object.{one_if, without}
-use Rattle.saa_core_spec.proofs.Counts.{number_same, same_number}
+use Rattle.std.proofs.lemmas.Bool.Decides.{nat_tests}
+use Rattle.saa_core_spec.specs.Object.{without}
+use Rattle.saa_core_spec.proofs.Counts.{number_same}
 use Rattle.saa_word_steps.specs.declared.event.Event.{Event}
 use Rattle.saa_word_steps.specs.declared.event.Event.TheVariants.{Acquired, Joined, Released, Lowered, Cancelled, Closed, Poisoned, Cleared, Granted, Showed, AnswerTaken}
 use Rattle.saa_word_steps.specs.Needs.{Needs, fits_count, left_count}
@@ -17,9 +17,6 @@ IsGrantedAt state place = (state.due place ≡ Some 0) ⊎ (state.shown place �
 -- an answer is a grant, if there is one
 abbrev pub MayBe : Option ℕ → Type 0
 MayBe answer = (answer ≡ None) ⊎ (answer ≡ Some 0)
-
-none-some : (value : ℕ) → ◌≡◌ {A = Option ℕ} None (Some value) → ⊥
-none-some value is = let wrong : false ≡ true = ap is_some is in absurd (cc)
 
 take-some : (line : List (ℕ × ℕ)) (count : ℕ) → 0 < count → count ≤ length line → is_empty (take count line) ≡ false
 take-some [] count some within = absurd (omega arith)
@@ -39,11 +36,7 @@ module _ (whole : ℕ) where
 
   ask-without : (line : List (ℕ × ℕ)) (place : ℕ) → AskWhole whole line → AskWhole whole (without place line)
   ask-without [] place all = tt
-  ask-without (asker ∷ line) place all =
-      elim (cases_Bool (asker.0 == place)) [
-        | inl mine ↦ rw mine (ask-without line place all.1)
-        | inr other ↦ rw other (all.0, ask-without line place all.1)
-      ]
+  ask-without (asker ∷ line) place all = grind (arith, all.0, ask-without line place all.1)
 
   ask-take : (line : List (ℕ × ℕ)) (count : ℕ) → AskWhole whole line → AskWhole whole (take count line)
   ask-take line zero all = tt
@@ -82,13 +75,21 @@ module _ (needs : Needs) (whole : ℕ) (w : IsWhole needs whole) where
     pub one : (place other : ℕ) → IsGrantedAt state place → IsGrantedAt state other → place ≡ other
     pub kept : taken ≡ false → ((place : ℕ) → IsGrantedAt state place → ⊥) → state.count ≡ 0
 
+  -- where nobody is granted
+  none-granted : (taken : Bool) (state : AbstractState) → AskWhole whole state.line → ((place : ℕ) → MayBe (state.due place) × MayBe (state.shown place))
+      → ((place : ℕ) → IsGrantedAt state place → ⊥) → (taken ≡ true → state.count ≡ needs.takes whole) → (taken ≡ false → state.count ≡ 0) → InTurns taken state
+  none-granted taken state asks says nobody gone rests = record {
+    asks = asks;
+    says = says;
+    gone = λ is. (gone is, nobody);
+    granted = λ place is. absurd (nobody place is);
+    one = λ place other is also. absurd (nobody place is);
+    kept = λ is nobody_is. rests is;
+  }
+
   module _ (taken : Bool) (state : AbstractState) (s : InTurns taken state) where
     at-rest : state.count ≡ 0 → taken ≡ false
-    at-rest none =
-        elim (cases_Bool taken) [
-          | inl gone ↦ absurd (w.takes (sym (s.gone gone).0 ∙ none))
-          | inr rests ↦ rests
-        ]
+    at-rest none = grind (arith, none, w.takes, s.gone)
 
     nobody : state.count ≡ 0 → (place : ℕ) → IsGrantedAt state place → ⊥
     nobody none place is = w.takes (sym (s.granted place is) ∙ none)
@@ -97,14 +98,8 @@ module _ (needs : Needs) (whole : ℕ) (w : IsWhole needs whole) where
     got : fits_count needs state.count whole ≡ true → InTurns true (record state { count = state.count + needs.takes whole })
     got fits =
         let none : state.count ≡ 0 = w.alone state.count fits in
-        let held : state.count + needs.takes whole ≡ needs.takes whole = omega (arith, none) in record {
-          asks = s.asks;
-          says = s.says;
-          gone = λ gone. (held, nobody none);
-          granted = λ place is. absurd (nobody none place is);
-          one = λ place other is also. absurd (nobody none place is);
-          kept = λ wrong. absurd (cc);
-        }
+        let held : state.count + needs.takes whole ≡ needs.takes whole = omega (arith, none) in
+        none-granted true _ s.asks s.says (nobody none) (λ gone. held) (λ wrong. absurd (cc))
 
     -- a turn is given back
     gave : taken ≡ true → (unclosed : Bool)
@@ -112,14 +107,8 @@ module _ (needs : Needs) (whole : ℕ) (w : IsWhole needs whole) where
     gave gone unclosed =
         let was = s.gone gone in
         let none : count_or state.count (left_count needs state.count whole) ≡ 0 =
-        ap (λ (n : ℕ). count_or n (left_count needs n whole)) was.0 ∙ ap (λ (left : Option ℕ). count_or (needs.takes whole) left) w.back in record {
-          asks = s.asks;
-          says = s.says;
-          gone = λ wrong. absurd (cc);
-          granted = λ place is. absurd (was.1 place is);
-          one = λ place other is also. absurd (was.1 place is);
-          kept = λ rests nobody_is. none;
-        }
+        ap (λ (n : ℕ). count_or n (left_count needs n whole)) was.0 ∙ ap (λ (left : Option ℕ). count_or (needs.takes whole) left) w.back in
+        none-granted false _ s.asks s.says was.1 (λ wrong. absurd (cc)) (λ rests. none)
 
     -- the oldest waiter is granted a turn
     grants : (count : ℕ) → 0 < count → count ≤ length state.line → IsFront needs state.count (take count state.line) → (granter : ℕ → ℕ)
@@ -144,26 +133,11 @@ module _ (needs : Needs) (whole : ℕ) (w : IsWhole needs whole) where
           granter = granter;
         } in
         let in_front : (place : ℕ) → is_in place (take count state.line) ≡ (asker.0 == place) || false = λ place. ap (is_in place) front.is in
-        let only : (place : ℕ) → IsGrantedAt After place → place ≡ asker.0 = λ place is.
-        elim (cases_Bool (asker.0 == place)) [
-          | inl mine ↦ sym (same_number asker.0 place mine)
-          | inr other ↦
-              let out_of : is_in place (take count state.line) ≡ false = in_front place ∙ ap (λ (b : Bool). b || false) other in
-              absurd (elim is [
-                | inl due ↦ nobody none place (inl (sym (ap (λ (b : Bool). if b then Some 0 else state.due place) out_of) ∙ due))
-                | inr shown ↦ nobody none place (inr shown)
-              ])
-        ] in
+        let only : (place : ℕ) → IsGrantedAt After place → place ≡ asker.0 = λ place is. grind (arith, nat_tests, is, in_front place, nobody none place) in
         let first : IsGrantedAt After asker.0 =
         inl (ap (λ (b : Bool). if b then Some 0 else state.due asker.0) (in_front asker.0 ∙ ap (λ (b : Bool). b || false) (number_same asker.0))) in record {
           asks = ask-drop whole state.line count s.asks;
-          says = λ place. (
-            elim (cases_Bool (is_in place (take count state.line))) [
-              | inl inside ↦ inr (ap (λ (b : Bool). if b then Some 0 else state.due place) inside)
-              | inr outside ↦ subst MayBe (sym (ap (λ (b : Bool). if b then Some 0 else state.due place) outside)) (s.says place).0
-            ],
-            (s.says place).1,
-          );
+          says = λ place. grind (arith, s.says place);
           gone = λ gone. (let wrong : true ≡ false = sym gone ∙ rests in absurd (cc));
           granted = λ place is. held;
           one = λ place other is also. only place is ∙ sym (only other also);
@@ -175,53 +149,16 @@ module _ (needs : Needs) (whole : ℕ) (w : IsWhole needs whole) where
       abbrev Shown : AbstractState
       Shown = record state { due = with_answer shown None state.due; shown = with_answer shown (state.due shown) state.shown }
 
-      due-is : (place : ℕ) (b : Bool) → place == shown ≡ b → Shown.due place ≡ (if b then None else state.due place)
-      due-is place b is = ap (λ (b : Bool). if b then None else state.due place) is
-
-      shown-is : (place : ℕ) (b : Bool) → place == shown ≡ b → Shown.shown place ≡ (if b then state.due shown else state.shown place)
-      shown-is place b is = ap (λ (b : Bool). if b then state.due shown else state.shown place) is
-
       shows-back : (place : ℕ) → IsGrantedAt Shown place → IsGrantedAt state place
-      shows-back place is =
-          elim (cases_Bool (place == shown)) [
-            | inl mine ↦
-                let same : place ≡ shown = same_number place shown mine in
-                elim is [
-                  | inl due ↦ absurd (none-some 0 (sym (due-is place true mine) ∙ due))
-                  | inr answer ↦ inl (ap state.due same ∙ sym (shown-is place true mine) ∙ answer)
-                ]
-            | inr other ↦
-                elim is [
-                  | inl due ↦ inl (sym (due-is place false other) ∙ due)
-                  | inr answer ↦ inr (sym (shown-is place false other) ∙ answer)
-                ]
-          ]
+      shows-back place is = grind (arith, nat_tests, is)
 
       shows-on : held_by shown state ≤ 1 → (place : ℕ) → is_some (state.due shown) ≡ true → IsGrantedAt state place → IsGrantedAt Shown place
-      shows-on once place due is =
-          elim (cases_Bool (place == shown)) [
-            | inl mine ↦
-                let same : place ≡ shown = same_number place shown mine in
-                elim (s.says shown).0 [
-                  | inl none ↦ (let wrong : false ≡ true = sym (ap is_some none) ∙ due in absurd (cc))
-                  | inr grant ↦ inr (shown-is place true mine ∙ grant)
-                ]
-            | inr other ↦
-                elim is [
-                  | inl due_is ↦ inl (due-is place false other ∙ due_is)
-                  | inr answer ↦ inr (shown-is place false other ∙ answer)
-                ]
-          ]
+      shows-on once place due is = grind (arith, nat_tests, due, is, s.says shown)
 
       shows : held_by shown state ≤ 1 → is_some (state.due shown) ≡ true → InTurns taken Shown
       shows once due = record {
         asks = s.asks;
-        says = λ place.
-            elim (cases_Bool (place == shown)) [
-              | inl mine ↦ (inl (due-is place true mine), subst MayBe (sym (shown-is place true mine)) (s.says shown).0)
-              | inr other ↦
-                  (subst MayBe (sym (due-is place false other)) (s.says place).0, subst MayBe (sym (shown-is place false other)) (s.says place).1)
-            ];
+        says = λ place. grind (arith, s.says place, s.says shown);
         gone = λ gone. ((s.gone gone).0, λ place is. (s.gone gone).1 place (shows-back place is));
         granted = λ place is. s.granted place (shows-back place is);
         one = λ place other is also. s.one place other (shows-back place is) (shows-back other also);
@@ -233,50 +170,15 @@ module _ (needs : Needs) (whole : ℕ) (w : IsWhole needs whole) where
       abbrev Taken : AbstractState
       Taken = record state { shown = with_answer me None state.shown }
 
-      taken-is : (place : ℕ) (b : Bool) → place == me ≡ b → Taken.shown place ≡ (if b then None else state.shown place)
-      taken-is place b is = ap (λ (b : Bool). if b then None else state.shown place) is
-
       takes-back : (place : ℕ) → IsGrantedAt Taken place → IsGrantedAt state place
-      takes-back place is =
-          elim (cases_Bool (place == me)) [
-            | inl mine ↦
-                elim is [
-                  | inl due ↦ inl due
-                  | inr answer ↦ absurd (none-some 0 (sym (taken-is place true mine) ∙ answer))
-                ]
-            | inr other ↦
-                elim is [
-                  | inl due ↦ inl due
-                  | inr answer ↦ inr (sym (taken-is place false other) ∙ answer)
-                ]
-          ]
+      takes-back place is = grind (arith, nat_tests, is)
 
       took : state.shown me ≡ Some 0 → held_by me state ≤ 1 → InTurns true Taken
       took is once =
           let mine : IsGrantedAt state me = inr is in
           let nobody_left : (place : ℕ) → IsGrantedAt Taken place → ⊥ = λ place granted.
-          let same : place ≡ me = s.one place me (takes-back place granted) mine in
-          let test : place == me ≡ true = ap (λ (n : ℕ). place == n) (sym same) ∙ number_same place in
-          elim granted [
-            | inl due ↦
-                let some_due : one_if (is_some (state.due me)) ≡ 1 = ap (λ (a : Option ℕ). one_if (is_some a)) (ap state.due (sym same) ∙ due) in
-                let some_shown : one_if (is_some (state.shown me)) ≡ 1 = ap (λ (a : Option ℕ). one_if (is_some a)) is in
-                omega (arith, some_due, some_shown, once)
-            | inr answer ↦ none-some 0 (sym (taken-is place true test) ∙ answer)
-          ] in record {
-            asks = s.asks;
-            says = λ place. (
-              (s.says place).0,
-              elim (cases_Bool (place == me)) [
-                | inl here ↦ inl (taken-is place true here)
-                | inr other ↦ subst MayBe (sym (taken-is place false other)) (s.says place).1
-              ],
-            );
-            gone = λ gone. (s.granted me mine, nobody_left);
-            granted = λ place is. absurd (nobody_left place is);
-            one = λ place other is also. absurd (nobody_left place is);
-            kept = λ wrong. absurd (cc);
-          }
+          let same : place ≡ me = s.one place me (takes-back place granted) mine in grind (arith, nat_tests, granted, is, once, same) in
+          none-granted true _ s.asks (λ place. grind (arith, s.says place)) nobody_left (λ gone. s.granted me mine) (λ wrong. absurd (cc))
 
     -- the line changes, and nothing else
     lined : (line : List (ℕ × ℕ)) (unclosed : Bool) → AskWhole whole line → InTurns taken (record state { line = line; unclosed = unclosed })
@@ -284,11 +186,7 @@ module _ (needs : Needs) (whole : ℕ) (w : IsWhole needs whole) where
 
     -- what a place that takes its answer is told
     told : (place value : ℕ) → state.shown place ≡ Some value → value ≡ 0
-    told place value is =
-        elim (s.says place).1 [
-          | inl none ↦ absurd (none-some value (sym none ∙ is))
-          | inr grant ↦ grind (arith, is, grant)
-        ]
+    told place value is = grind (arith, is, s.says place)
 
   -- Each event of those who take turns
   event-keeps : (taken : Bool) (state : AbstractState) (place : ℕ) (event : Event) → InTurns taken state → AreOnce state
@@ -325,10 +223,7 @@ module _ (needs : Needs) (whole : ℕ) (w : IsWhole needs whole) where
       at-rest taken state s (fits-none state.count request allowed enabled.2)
   begins-apart taken state place (AnswerTaken value) s enabled allowed begins =
       let grant : value ≡ 0 = told taken state s place value enabled in
-      elim (cases_Bool taken) [
-        | inl gone ↦ absurd ((s.gone gone).1 place (inr (enabled ∙ ap (λ (n : ℕ). Some n) grant)))
-        | inr rests ↦ rests
-      ]
+      grind (arith, grant, enabled, λ (gone : taken ≡ true). (s.gone gone).1 place)
   begins-apart taken state place _ s enabled allowed begins = absurd (cc)
 
   -- Histories
@@ -347,14 +242,7 @@ module _ (needs : Needs) (whole : ℕ) (w : IsWhole needs whole) where
       let parts = turns-split (is_taken_after taken entry.1) front rest turns.1 in ((turns.0, parts.0), parts.1)
 
   opens : InTurns false (opening 0)
-  opens = record {
-    asks = tt;
-    says = λ place. (inl refl, inl refl);
-    gone = λ wrong. absurd (cc);
-    granted = λ place is. absurd (elim is [ inl due ↦ none-some 0 due | inr shown ↦ none-some 0 shown ]);
-    one = λ place other is also. absurd (elim is [ inl due ↦ none-some 0 due | inr shown ↦ none-some 0 shown ]);
-    kept = λ rests nobody_is. refl;
-  }
+  opens = none-granted false (opening 0) tt (λ place. (inl refl, inl refl)) (λ place is. grind (arith, is)) (λ wrong. absurd (cc)) (λ rests. refl)
 
   pub apart : (before after : List (ℕ × Event)) (place : ℕ) (event : Event) (last : AbstractState)
       → IsRun needs (opening 0) (before ++ (place, event) ∷ after) last → AreTurns whole (before ++ (place, event) ∷ after)
@@ -366,28 +254,18 @@ module _ (needs : Needs) (whole : ℕ) (w : IsWhole needs whole) where
       (along false (opening 0) opens (opening-once 0) before parts.middle parts.first halves.0) parts.second.0 halves.1.0 begins
 
   none-answered : (taken : Bool) (state : AbstractState) → InTurns taken state → ((place : ℕ) → IsGrantedAt state place → ⊥) → NobodyIsAnswered state
-  none-answered taken state s nobody_is place = (
-    elim (s.says place).0 [ inl none ↦ none | inr grant ↦ absurd (nobody_is place (inl grant)) ],
-    elim (s.says place).1 [ inl none ↦ none | inr grant ↦ absurd (nobody_is place (inr grant)) ],
-  )
+  none-answered taken state s nobody_is place = grind (arith, s.says place, nobody_is place)
 
   pub alone : (history : List (ℕ × Event)) (last : AbstractState) → IsRun needs (opening 0) history last → AreTurns whole history
       → is_taken history ≡ true → (fits_count needs last.count whole ≡ false) × NobodyIsAnswered last
   alone history last run turns taken =
       let s = along false (opening 0) opens (opening-once 0) history last run turns in
       let gone = s.gone taken in (
-        elim (cases_Bool (fits_count needs last.count whole)) [
-          | inl fits ↦ absurd (w.takes (sym gone.0 ∙ w.alone last.count fits))
-          | inr full ↦ full
-        ],
+        grind (arith, gone.0, w.alone last.count, w.takes),
         none-answered (is_taken history) last s gone.1,
       )
 
   pub kept : (history : List (ℕ × Event)) (last : AbstractState) → IsRun needs (opening 0) history last → AreTurns whole history
       → is_taken history ≡ false → NobodyIsAnswered last → last.count ≡ 0
   kept history last run turns rests nobody_is =
-      (along false (opening 0) opens (opening-once 0) history last run turns).kept rests (λ place is.
-      elim is [
-        | inl due ↦ none-some 0 (sym (nobody_is place).0 ∙ due)
-        | inr shown ↦ none-some 0 (sym (nobody_is place).1 ∙ shown)
-      ])
+      (along false (opening 0) opens (opening-once 0) history last run turns).kept rests (λ place is. grind (arith, is, nobody_is place))

@@ -53,9 +53,7 @@ waits-same needs places row standing state s request =
 
 -- a test that is false says both
 neither : (one other : Bool) → not one || not other ≡ false → (one ≡ true) × (other ≡ true)
-neither true true clear = (refl, refl)
-neither true false clear = absurd (cc)
-neither false other clear = absurd (cc)
+neither one other clear = (grind (arith, clear), grind (arith, clear))
 
 -- how an ask goes on with the word that it saw, where that is poisoned and where it isn't
 abbrev next_by : Needs → Place → Ask → Word → Bool → Next
@@ -120,7 +118,7 @@ decided-outcome needs wide places row standing state me s none nothing ask unjoi
               let must : must_wait needs state ask.request ≡ true = sym (waits-same needs places row standing state s ask.request) ∙ waits in
               elim (cases_Bool ask.joins) [
                 | inl joins ↦ rw (waits, joins) (unseen
-                    (moved needs places row standing state me s (record (standing me) { stage = Prepare ask.request seen }) (λ out. (let wrong : true ≡ false = sym joins ∙ unjoined out in absurd (cc))) refl
+                    (moved needs places row standing state me s (record (standing me) { stage = Prepare ask.request seen }) (λ out. sym joins ∙ unjoined out) refl
                     (count-small (row 0)) (small, idle joins, tail-small (row 0), waits, clean) still tt nothing (sym none) (λ is. absurd (no_holder is))))
                 | inr refused ↦ rw (waits, refused) (record {
                   events = Refused ask.request ∷ [];
@@ -136,8 +134,7 @@ decided-outcome needs wide places row standing state me s none nothing ask unjoi
               let fits : fits_count needs state.count ask.request ≡ true = ap (λ (n : ℕ). fits_count needs n ask.request) (sym s.main.count) ∙ both.1 in
               elim (cases_Bool (needs.takes ask.request == 0)) [
                 | inl nothing_taken ↦
-                    let same : record state { count = state.count + needs.takes ask.request } ≡ state =
-                    ap (λ (n : ℕ). record state { count = n }) (omega (arith, same_number (needs.takes ask.request) 0 nothing_taken)) in
+                    let same = ap (λ (n : ℕ). record state { count = n }) (omega (arith, same_number (needs.takes ask.request) 0 nothing_taken)) in
                     rw (free, nothing_taken) (at-once 0 _ _ (Acquired ask.request ∷ []) ((calm, alone, fits), same) refl)
                 | inr takes ↦ rw (free, takes) (unseen
                     (moved needs places row standing state me s (record (standing me) { stage = AcquireExchange ask seen }) unjoined refl

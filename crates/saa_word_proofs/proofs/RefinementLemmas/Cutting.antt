@@ -1,8 +1,8 @@
 -- The holder of the flag cuts the granted waiters off from those that stay: each step keeps how words, places and the abstract state
 -- stand together.
 use Rattle.std.proofs.Common.{◌≡◌, ℕ, ◌+◌, ◌<◌, ◌≤◌, pred, true, false, List, [], ◌∷◌, ◌++◌, refl, sym, ap, subst, ◌∙◌, arith}
-use Rattle.saa_core_spec.specs.Object.{one_if, times}
-use Rattle.saa_core_spec.proofs.Counts.{number_same, times-append}
+use Rattle.saa_core_spec.specs.Object.{times}
+use Rattle.saa_core_spec.proofs.Counts.{one_if-same, times-append}
 use Rattle.saa_core_words.specs.declared.word.Word.{Word}
 use Rattle.saa_core_words.specs.declared.line_word.LineWord.{LineWord}
 use Rattle.saa_core_words.specs.Words.{line_number}
@@ -15,22 +15,11 @@ use Rattle.saa_word_steps.specs.AbstractState.{AbstractState, IsSettledAt, is_in
 use Rattle.saa_word_steps.specs.Steps.{IsRanged}
 use Rattle.saa_word_proofs.specs.Refinement.{joins_line, is_holder, gives_up, IsLocallyTrue, IsOwn, IsShowing, Work, IsAt, IsHolding, IsLine, AreSeats, Invariant}
 use Rattle.saa_word_proofs.specs.Rows.{IsBehind, line_of, updated}
-use Rattle.saa_word_proofs.proofs.RefinementLemmas.Lists.{behind-frame, behind-front, behind-rest}
+use Rattle.saa_word_proofs.proofs.RefinementLemmas.Lists.{behind-same, behind-front, behind-rest}
 use Rattle.saa_word_proofs.proofs.RefinementLemmas.Frames.{oldest-stands, work-behind}
 use Rattle.saa_word_proofs.proofs.RefinementLemmas.Rows.{IsStep, at-stage, line-at, line-other}
 use Rattle.saa_word_proofs.proofs.RefinementLemmas.Linking.{flag-held, in-line, line-room, relinked, IsLooked, looked, linked-all, tail-room}
 use Rattle.saa_word_proofs.proofs.RefinementLemmas.Outcomes.{silent}
-
--- a place that is once in a line is in one part of it
-once-before : (front rest : List (ℕ × ℕ)) (asker : ℕ × ℕ) (place : ℕ) → times asker.0 (front ++ asker ∷ rest) ≤ 1
-    → 0 < times place front → place ≡ asker.0 → ⊥
-once-before front rest asker place once there is =
-    omega (arith, once, times-append asker.0 front (asker ∷ rest), ap one_if (number_same asker.0), there, ap (λ (n : ℕ). times n front) is)
-
-once-behind : (front rest : List (ℕ × ℕ)) (asker : ℕ × ℕ) (place : ℕ) → times asker.0 (front ++ asker ∷ rest) ≤ 1
-    → 0 < times place rest → place ≡ asker.0 → ⊥
-once-behind front rest asker place once there is =
-    omega (arith, once, times-append asker.0 front (asker ∷ rest), ap one_if (number_same asker.0), there, ap (λ (n : ℕ). times n rest) is)
 
 -- A line is linked in two parts once nobody is before the first of the second
 cut-line : (words new : ℕ → LineWord) (line front rest : List (ℕ × ℕ)) (asker : ℕ × ℕ)
@@ -42,21 +31,20 @@ cut-line words new line front rest asker parts linked once request older others 
     let all : IsBehind words 0 (front ++ asker ∷ rest) = subst (λ l. IsBehind words 0 l) parts linked in
     let only : times asker.0 (front ++ asker ∷ rest) ≤ 1 = subst (λ l. times asker.0 l ≤ 1) parts once in
     let second = behind-rest words 0 front (asker ∷ rest) all in
+    let both = times-append asker.0 front (asker ∷ rest) in
     record {
       parts = parts;
-      granted = behind-frame words new 0 front (λ place there. kept place (once-before front rest asker place only there))
+      granted = behind-same words new 0 front
+          (λ place there. others place (λ is. omega (arith, only, both, one_if-same asker.0, there, ap (λ (n : ℕ). times n front) is)))
           (behind-front words 0 front (asker ∷ rest) all);
       stays = (
         request ∙ second.0,
         older,
-        behind-frame words new (asker.0 + 1) rest
-            (λ place there. kept place (once-behind front rest asker place only there)) second.2,
+        behind-same words new (asker.0 + 1) rest
+            (λ place there. others place (λ is. omega (arith, only, both, one_if-same asker.0, there, ap (λ (n : ℕ). times n rest) is))) second.2,
       );
       some = λ none. absurd (cc);
     }
-  where
-    kept : (place : ℕ) → (place ≡ asker.0 → ⊥) → ((new place).request ≡ (words place).request) × ((new place).older ≡ (words place).older)
-    kept place apart = (ap (λ (w : LineWord). w.request) (others place apart), ap (λ (w : LineWord). w.older) (others place apart))
 
 -- What both cuts leave, for any stage that the holder goes on at: the front is cut off
 cut : (needs : Needs) (places : ℕ) (row : ℕ → ℕ) (standing : ℕ → Place) (state : AbstractState) (me : ℕ) (s : Invariant needs places row standing state)
@@ -77,10 +65,8 @@ cut needs places row standing state me s seen work current line next never holds
     let place : pred current ≡ look.asker.0 = omega (arith, look.link) in
     let number : ℕ = line_number (record line { older = 0 }) in
     let new : ℕ → LineWord = line_of (updated row (pred current + 1) number) in
-    let small : (line.request < 65536) × (line.older < 65536) × (line.newer < 65536) =
-    subst (λ (w : LineWord). (w.request < 65536) × (w.older < 65536) × (w.newer < 65536)) (sym word) (line-room (row (pred current + 1))) in
-    let written : new (pred current) ≡ record line { older = 0 } =
-    line-at row (pred current) number ∙ line_word-read (record line { older = 0 }) small.0 (omega arith) small.2 in
+    let small = subst (λ (w : LineWord). (w.request < 65536) × (w.older < 65536) × (w.newer < 65536)) (sym word) (line-room (row (pred current + 1))) in
+    let written = line-at row (pred current) number ∙ line_word-read (record line { older = 0 }) small.0 (omega arith) small.2 in
     let written_there : new look.asker.0 ≡ record line { older = 0 } = subst (λ (n : ℕ). new n ≡ record line { older = 0 }) place written in
     let line_is : IsLine new state.line work.front (look.asker ∷ (look.rest ++ work.joined)) =
     cut-line (line_of row) new state.line work.front (look.rest ++ work.joined) look.asker

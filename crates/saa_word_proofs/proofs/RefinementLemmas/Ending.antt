@@ -1,5 +1,5 @@
 -- A place that is done with the line: it is in no call, or takes its own answer.
-use Rattle.std.proofs.Common.{◌≡◌, ℕ, false, List, [], refl}
+use Rattle.std.proofs.Common.{◌≡◌, ℕ, false, List, [], arith}
 use Rattle.saa_core_words.specs.declared.line_word.LineWord.{LineWord}
 use Rattle.saa_word_steps.specs.declared.place.Place.{Place}
 use Rattle.saa_word_steps.specs.declared.place.Registration.{Registration}
@@ -19,40 +19,31 @@ end_stage (Takes request) = Take (Gives request)
 end_stage _ = Quiet
 
 pub ended : (place : Place) (back : AfterWalk) → place_after place (finished place back) ≡ record place { stage = end_stage back }
-ended place (Takes request) = refl
-ended place _ = refl
+ended place back = grind arith
 
 pub ended-ranged : (needs : Needs) (back : AfterWalk) → IsRanged needs (end_stage back)
-ended-ranged needs (Takes request) = tt
-ended-ranged needs _ = tt
+ended-ranged needs back = grind arith
 
 pub ended-alone : (needs : Needs) (registration : Registration) (back : AfterWalk) → IsReturning registration back → IsLocallyTrue needs registration back (end_stage back)
-ended-alone needs registration (Takes request) returning = returning
-ended-alone needs registration _ returning = tt
+ended-alone needs registration back returning = grind (arith, returning)
 
 -- it takes its own answer where it was to take that
 pub ended-apart : (back : AfterWalk) → gives_up back (end_stage back) ≡ takes_back back
-ended-apart (Takes request) = refl
-ended-apart _ = refl
+ended-apart back = grind arith
 
 -- and doesn't join the line
 pub ended-joins : (back : AfterWalk) → joins_line (end_stage back) ≡ false
-ended-joins (Takes request) = refl
-ended-joins _ = refl
+ended-joins back = grind arith
 
 pub ended-own : (word : LineWord) (back : AfterWalk) → IsOwn word (end_stage back)
-ended-own word (Takes request) = tt
-ended-own word _ = tt
+ended-own word back = grind arith
 
 pub ended-showing : (owed : List (ℕ × ℕ)) (answer_value : ℕ) (back : AfterWalk) → owed ≡ [] → IsShowing owed answer_value (end_stage back)
-ended-showing owed answer_value (Takes request) none = none
-ended-showing owed answer_value _ none = none
+ended-showing owed answer_value back none = grind (arith, none)
 
 pub ended-holder : (back : AfterWalk) → is_holder (end_stage back) ≡ false
-ended-holder (Takes request) = refl
-ended-holder _ = refl
+ended-holder back = grind arith
 
 -- who doesn't take its own answer once it is done is returning, whatever it is registered as
 pub returning-any : (registration : Registration) (back : AfterWalk) → takes_back back ≡ false → IsReturning registration back
-returning-any registration (Takes request) none = absurd (cc)
-returning-any registration _ none = tt
+returning-any registration back none = grind (arith, none)

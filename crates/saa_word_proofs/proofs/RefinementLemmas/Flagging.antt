@@ -1,13 +1,13 @@
 -- A cancel sets the flag: each step keeps that words and places refine the abstract state.
 use Rattle.std.proofs.Common.{◌^◌, ◌≡◌, ℕ, ◌+◌, ◌<◌, Bool, true, false, not, [], ◌==◌, if◌then◌else◌, refl, sym, ap, subst, ◌∙◌, arith, inl, inr}
 use Rattle.std.proofs.lemmas.Bool.{cases_Bool}
-use Rattle.saa_core_spec.proofs.Counts.{number_same, same_number, number_other}
+use Rattle.std.proofs.lemmas.Bool.Decides.{nat_tests}
+use Rattle.saa_core_spec.proofs.Counts.{number_same, number_other}
 use Rattle.saa_core_words.specs.declared.word.Word.{Word}
 use Rattle.saa_core_words.specs.Words.{count_bits, word_number}
 use Rattle.saa_word_steps.specs.declared.place.Place.{Place}
 use Rattle.saa_word_steps.specs.declared.place.Registration.{Registration}
 use Rattle.saa_word_steps.specs.declared.place.AfterWalk.{AfterWalk}
-use Rattle.saa_word_steps.specs.declared.place.AfterWalk.TheVariants.{Takes}
 use Rattle.saa_word_steps.specs.declared.place.Stage.TheVariants.{FlagLoad, FlagExchange, LookLoad}
 use Rattle.saa_word_steps.specs.declared.place.Next.TheVariants.{Waits}
 use Rattle.saa_word_steps.specs.Needs.{Needs}
@@ -24,40 +24,33 @@ use Rattle.saa_word_proofs.proofs.RefinementLemmas.Ending.{end_stage, ended, end
 
 -- who gives its registration up is returning
 pub returning-leaving : (registration : Registration) (back : AfterWalk) → IsLeaving registration back → IsReturning registration back
-returning-leaving registration (Takes request) leaving = leaving
-returning-leaving registration _ leaving = absurd leaving
+returning-leaving registration back leaving = grind (arith, leaving)
 
 -- A cancel that is decided by the main word as it stands: by its flag, and by whether nobody waits
-flag-outcome : (needs : Needs) (places : ℕ) (row : ℕ → ℕ) (standing : ℕ → Place) (state : AbstractState) (me : ℕ)
-    → me < places → (s : Invariant needs places row standing state) → is_holder (standing me).stage ≡ false → s.owed me ≡ []
-    → IsLeaving (standing me).registration (standing me).back
-    → (flagged empty : Bool) → (main_of row).is_flagged ≡ flagged → ((main_of row).tail == 0) ≡ empty
-    → Outcome needs places row standing state me
-    (if flagged then Waits else (if empty then finished (standing me) (standing me).back else going (standing me) (FlagExchange (main_of row)))) []
-flag-outcome needs places row standing state me here s none nothing leaving true empty set rest =
-    unseen (subst (λ (p : ℕ → Place). Invariant needs places row p state) (sym (updated-same standing me (standing me) refl)) s)
-flag-outcome needs places row standing state me here s none nothing leaving false true clear nobody =
-    let back : AfterWalk = (standing me).back in
-    let registration : Registration = (standing me).registration in
-    let empty : state.line ≡ [] = front-none state.line _ s.main.tail nobody in
-    unseen (subst (λ (p : Place). Invariant needs places row (updated standing me p) state) (sym (ended (standing me) back))
-    (moved needs places row standing state me s (record (standing me) { stage = end_stage back }) (λ out. absurd (omega (arith, out, here))) refl
-    (ended-ranged needs back) (ended-alone needs registration back (returning-leaving registration back leaving))
-    (λ gives. ap (is_in me) empty) (ended-own (line_of row me) back) (ended-showing (s.owed me) (s.answer_value me) back nothing)
-    (ended-holder back ∙ sym none) (λ it. absurd (not-holder needs places row standing state me s none it))))
-flag-outcome needs places row standing state me here s none nothing leaving false false clear some =
-    unseen
-    (moved needs places row standing state me s (record (standing me) { stage = FlagExchange (main_of row) }) (λ out. absurd (omega (arith, out, here))) refl
-    (count-small (row 0)) (leaving, tail-small (row 0), some, clear) (λ gives. absurd (cc)) tt nothing (sym none)
-    (λ it. absurd (not-holder needs places row standing state me s none it)))
-
--- the two tests are those of the main word
 flagging-outcome : (needs : Needs) (places : ℕ) (row : ℕ → ℕ) (standing : ℕ → Place) (state : AbstractState) (me : ℕ)
     → me < places → (s : Invariant needs places row standing state) → is_holder (standing me).stage ≡ false → s.owed me ≡ []
     → IsLeaving (standing me).registration (standing me).back
     → Outcome needs places row standing state me (flagging (standing me) (main_of row)) []
-flagging-outcome needs places row standing state me here s none nothing leaving =
-    flag-outcome needs places row standing state me here s none nothing leaving (main_of row).is_flagged ((main_of row).tail == 0) refl refl
+flagging-outcome needs places row standing state me here s none nothing leaving = by (main_of row).is_flagged ((main_of row).tail == 0) refl refl
+  where
+    by : (flagged empty : Bool) → (main_of row).is_flagged ≡ flagged → ((main_of row).tail == 0) ≡ empty → Outcome needs places row standing state me
+        (if flagged then Waits else (if empty then finished (standing me) (standing me).back else going (standing me) (FlagExchange (main_of row)))) []
+    by true empty set rest =
+        unseen (subst (λ (p : ℕ → Place). Invariant needs places row p state) (sym (updated-same standing me (standing me) refl)) s)
+    by false true clear nobody =
+        let back : AfterWalk = (standing me).back in
+        let registration : Registration = (standing me).registration in
+        let empty : state.line ≡ [] = front-none state.line _ s.main.tail nobody in
+        unseen (subst (λ (p : Place). Invariant needs places row (updated standing me p) state) (sym (ended (standing me) back))
+        (moved needs places row standing state me s (record (standing me) { stage = end_stage back }) (λ out. absurd (omega (arith, out, here))) refl
+        (ended-ranged needs back) (ended-alone needs registration back (returning-leaving registration back leaving))
+        (λ gives. ap (is_in me) empty) (ended-own (line_of row me) back) (ended-showing (s.owed me) (s.answer_value me) back nothing)
+        (ended-holder back ∙ sym none) (λ it. absurd (not-holder needs places row standing state me s none it))))
+    by false false clear some =
+        unseen
+        (moved needs places row standing state me s (record (standing me) { stage = FlagExchange (main_of row) }) (λ out. absurd (omega (arith, out, here))) refl
+        (count-small (row 0)) (leaving, tail-small (row 0), some, clear) (λ gives. absurd (cc)) tt nothing (sym none)
+        (λ it. absurd (not-holder needs places row standing state me s none it)))
 
 -- The main word is loaded: the cancel waits, is done with the line, or is to set the flag
 pub step-FlagLoad : IsOwnStep FlagLoad
@@ -73,14 +66,11 @@ link-some place = number_other (place + 1) 0 (λ is. absurd (omega (arith, is)))
 
 -- a mark whose opposite is false is true
 pub not-true : (mark : Bool) → not mark ≡ false → mark ≡ true
-not-true true is = refl
-not-true false is = absurd (cc)
+not-true mark is = grind (arith, is)
 
 -- where nobody held the flag, another place holds it no more than before
 pub apart-holders : (holder me other : ℕ) → holder == 0 ≡ true → (other ≡ me → ⊥) → (holder == other + 1) ≡ (me + 1 == other + 1)
-apart-holders holder me other nobody apart =
-    number_other holder (other + 1) (λ is. absurd (omega (arith, same_number holder 0 nobody, is)))
-    ∙ sym (number_other (me + 1) (other + 1) (λ is. apart (omega (arith, is))))
+apart-holders holder me other nobody apart = grind (arith, nat_tests, nobody, apart)
 
 -- The flag is set where somebody waits and nobody holds it: this place holds it, and looks for itself from the tail
 flag-set : (needs : Needs) (places : ℕ) (row : ℕ → ℕ) (standing : ℕ → Place) (state : AbstractState) (me : ℕ)
@@ -95,7 +85,6 @@ flag-set needs places row standing state me here s nothing leaving seen small ta
     let some : is_empty state.line ≡ false = sym (newest-empty state.line) ∙ ap (λ (n : ℕ). n == 0) (sym tail) ∙ somebody in
     let nobody : s.holder == 0 ≡ true = not-true (s.holder == 0) (sym s.main.flag ∙ ap (λ (w : Word). w.is_flagged) is ∙ clear) in
     let word : Word = flagged_word seen in
-    let taken : (me + 1 == 0) ≡ true → ⊥ = λ free. let wrong : true ≡ false = sym free ∙ link-some me in absurd (cc) in
     exchanged needs places row standing state me s (word_number count_bits word) state.count state.unclosed state.poisoned (me + 1)
     (record (standing me) { stage = LookLoad word seen.tail 0 no_line }) (λ out. absurd (omega (arith, out, here))) refl small leaving refl tt nothing
     (sym (number_same (me + 1)))
@@ -106,9 +95,9 @@ flag-set needs places row standing state me here s nothing leaving seen small ta
       (refl, refl),
       (λ there. absurd (cc)),
     ))
-    (λ other apart. apart-holders s.holder me other nobody apart) (λ other it. omega arith) (λ free. absurd (taken free))
+    (λ other apart. apart-holders s.holder me other nobody apart) (λ other it. omega arith) (λ free. grind (arith, nat_tests, free))
     (main-now needs state (me + 1) word small tail_small count tail (sym (ap not (link-some me))) poison s.main.barren s.main.bounded
-    (λ free. absurd (taken free)) s.main.settled)
+    (λ free. grind (arith, nat_tests, free)) s.main.settled)
 
 -- The flag is set, or the main word is another one by now, and decides as where it is loaded
 pub step-FlagExchange : (seen : Word) → IsOwnStep (FlagExchange seen)

@@ -1,6 +1,7 @@
 -- What a step leaves as it was: of the words, of what the other places remember, and of what the holder of the flag knows.
-use Rattle.std.proofs.Common.{◌≡◌, ℕ, ◌+◌, ◌<◌, ◌≤◌, pred, true, false, List, [], ◌∷◌, ◌++◌, ◌==◌, sym, ap, subst, ◌∙◌, arith, append_assoc, append-nil}
-use Rattle.saa_core_spec.specs.Object.{one_if, times}
+use Rattle.std.proofs.Common.{◌≡◌, ℕ, ◌+◌, ◌<◌, ◌≤◌, pred, true, false, List, [], ◌++◌, ◌==◌, sym, ap, subst, ◌∙◌, arith, append_assoc, append-nil}
+use Rattle.std.proofs.lemmas.Bool.Decides.{nat_tests}
+use Rattle.saa_core_spec.specs.Object.{times}
 use Rattle.saa_core_spec.proofs.Counts.{number_same, same_number, times-append}
 use Rattle.saa_core_words.specs.declared.word.Word.{Word}
 use Rattle.saa_core_words.specs.declared.line_word.LineWord.{LineWord}
@@ -45,11 +46,7 @@ newest-stands line link some is =
     (newest-in 0 (pred link) line some (sym is ∙ link_is), link_is)
 
 pub oldest-stands : (line : List (ℕ × ℕ)) (link : ℕ) → is_empty line ≡ false → link ≡ oldest line → (0 < times (pred link) line) × (link ≡ pred link + 1)
-oldest-stands [] link some is = absurd (cc)
-oldest-stands (asker ∷ rest) link some is =
-    let link_is : link ≡ pred link + 1 = omega (arith, is) in
-    let same : asker.0 ≡ pred link = omega (arith, is, link_is) in
-    (omega (arith, ap one_if (ap (λ n. n == pred link) same ∙ number_same (pred link))), link_is)
+oldest-stands line link some is = (grind (arith, nat_tests, some, is), grind (arith, nat_tests, some, is))
 
 -- a holder that passed itself by has done so where others have joined
 passed-more : (me : ℕ) (behind joined more : List (ℕ × ℕ)) → is_in me more ≡ false → IsPassed me behind joined → IsPassed me behind (joined ++ more)

@@ -1,5 +1,5 @@
 -- The step that adds what was granted to the count: it keeps that words and places refine the abstract state.
-use Rattle.std.proofs.Common.{◌≡◌, ℕ, ◌+◌, ◌-◌, ◌/◌, ◌%◌, ◌^◌, ◌<◌, ◌≤◌, true, false, List, [], ◌∷◌, ◌++◌, ◌==◌, refl, sym, ap, subst, ◌∙◌, arith, inl, inr, append-nil}
+use Rattle.std.proofs.Common.{◌≡◌, ℕ, ◌+◌, ◌-◌, ◌/◌, ◌%◌, ◌^◌, ◌<◌, ◌≤◌, true, false, List, [], ◌++◌, ◌==◌, refl, sym, ap, ◌∙◌, arith, inl, inr, append-nil}
 use Rattle.std.proofs.lemmas.Bool.{cases_Bool}
 use Rattle.saa_core_words.specs.declared.word.Word.{Word}
 use Rattle.saa_core_words.specs.Words.{count_bits, word_of}
@@ -23,20 +23,11 @@ raised-word number more small =
     let high : (number + more) / 2 ^ count_bits ≡ number / 2 ^ count_bits = omega (arith, small) in
     rw (low, high) refl
 
-raised-number : (number more : ℕ) → number < 2 ^ (count_bits + 18) → number % 2 ^ count_bits + more < 2 ^ count_bits → (number + more) % 2 ^ 64 ≡ number + more
-raised-number number more whole small = omega (arith, whole, small)
-
-raised-whole : (number more : ℕ) → number < 2 ^ (count_bits + 18) → number % 2 ^ count_bits + more < 2 ^ count_bits → number + more < 2 ^ (count_bits + 18)
-raised-whole number more whole small = omega (arith, whole, small)
-
 -- where the line isn't open nobody is granted, and it stays settled
 round-settled : (needs : Needs) (count : ℕ) (line front rest : List (ℕ × ℕ)) → line ≡ front ++ rest → IsFront needs count front
     → IsSettledAt needs count line → IsSettledAt needs (count + takes_of needs front) rest
-round-settled needs count line [] rest parts fits settled =
-    subst (λ (n : ℕ). IsSettledAt needs n rest) (omega arith) (subst (λ (l : List (ℕ × ℕ)). IsSettledAt needs count l) parts settled)
-round-settled needs count line (asker ∷ more) rest parts fits settled =
-    let none : asker ∷ more ≡ [] = settled-front needs count line (asker ∷ more) rest parts fits settled in
-    absurd (cc)
+round-settled needs count line front rest parts fits settled =
+    grind (arith, parts, settled, settled-front needs count line front rest parts fits settled)
 
 -- The main word once what a front takes is added to it says what the object is
 raised-main : (needs : Needs) → AreNeeds needs → needs.top < 2 ^ count_bits → (state : AbstractState) (me number holder more : ℕ) (front rest : List (ℕ × ℕ))
@@ -45,11 +36,10 @@ raised-main : (needs : Needs) → AreNeeds needs → needs.top < 2 ^ count_bits 
 raised-main needs lawful wide state me number holder more front rest calm was fits parts some adds =
     let bounded : state.count + takes_of needs front ≤ needs.top = front-bounded needs lawful state.count front fits was.bounded in
     let small : number % 2 ^ count_bits + more < 2 ^ count_bits = omega (arith, was.count, bounded, wide, adds) in
-    let is : (number + more) % 2 ^ 64 ≡ number + more = raised-number number more was.whole small in
-    let word =
-    ap (word_of count_bits) is ∙ raised-word number more small in
+    let is : (number + more) % 2 ^ 64 ≡ number + more = omega (arith, was.whole, small) in
+    let word = ap (word_of count_bits) is ∙ raised-word number more small in
     record {
-      whole = rw is (raised-whole number more was.whole small);
+      whole = rw is (omega (arith, was.whole, small));
       count = ap (λ (w : Word). w.count) word ∙ ap (λ (n : ℕ). n + more) was.count ∙ ap (λ (n : ℕ). state.count + n) adds;
       tail = ap (λ (w : Word). w.tail) word ∙ was.tail ∙ ap (λ (l : List (ℕ × ℕ)). newest 0 l) parts ∙ newest-rest 0 front rest some;
       flag = ap (λ (w : Word). w.is_flagged) word ∙ was.flag;

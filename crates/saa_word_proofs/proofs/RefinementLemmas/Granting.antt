@@ -1,16 +1,17 @@
 -- The waiters of a front are granted: they leave the line, and the place that granted them owes their answers.
 use Rattle.std.proofs.Common.{◌≡◌, ℕ, ◌+◌, ◌<◌, ◌≤◌, Bool, true, false, List, [], ◌∷◌, ◌++◌, length, take, drop, ◌==◌, Some, is_some, refl, sym, ap, subst, ◌∙◌, arith, inl, inr, ◌^◌}
 use Rattle.std.proofs.lemmas.Bool.{cases_Bool}
+use Rattle.std.proofs.lemmas.Bool.Decides.{nat_tests}
 use Rattle.std.proofs.Math.ListN.{length-append}
 use Rattle.saa_core_spec.specs.Object.{one_if, times}
-use Rattle.saa_core_spec.proofs.Counts.{one_if-le, number_same, same_number, number_other, times-append}
+use Rattle.saa_core_spec.proofs.Counts.{one_if-le, number_same, number_other, times-append}
 use Rattle.saa_core_words.specs.declared.word.Word.{Word}
 use Rattle.saa_core_words.specs.declared.line_word.LineWord.{LineWord}
 use Rattle.saa_core_words.specs.Words.{count_bits, word_number}
 use Rattle.saa_core_words.proofs.Words.{word-read}
 use Rattle.saa_word_steps.specs.declared.place.Place.{Place}
 use Rattle.saa_word_steps.specs.declared.place.Stage.{Stage}
-use Rattle.saa_word_steps.specs.Needs.{Needs, AreNeeds, fits_count}
+use Rattle.saa_word_steps.specs.Needs.{Needs, AreNeeds}
 use Rattle.saa_word_steps.specs.declared.event.Event.{Event}
 use Rattle.saa_word_steps.specs.declared.event.Event.TheVariants.{Granted, Closed}
 use Rattle.saa_word_steps.specs.AbstractState.{AbstractState, IsEnabled, after_event, IsRun, IsFront, IsSettledAt, is_empty, is_in, takes_of, answered_with, granted_by, held_by}
@@ -64,17 +65,13 @@ newest-rest older front rest some = newest-append older front rest ∙ newest-an
 -- a line is settled by those of it that stand first
 pub settled-append : (needs : Needs) (count : ℕ) (front behind : List (ℕ × ℕ)) → is_empty front ≡ false → IsSettledAt needs count front
     → IsSettledAt needs count (front ++ behind)
-settled-append needs count [] behind some settled = absurd (cc)
-settled-append needs count (asker ∷ rest) behind some settled = settled
+settled-append needs count front behind some settled = grind (arith, some, settled)
 
 -- nobody fits in a settled line
 pub settled-front : (needs : Needs) (count : ℕ) (line front rest : List (ℕ × ℕ)) → line ≡ front ++ rest → IsFront needs count front
     → IsSettledAt needs count line → front ≡ []
 settled-front needs count line [] rest parts fits settled = refl
-settled-front needs count line (asker ∷ more) rest parts fits settled =
-    let unfit : fits_count needs count asker.1 ≡ false = subst (λ (l : List (ℕ × ℕ)). IsSettledAt needs count l) parts settled in
-    let wrong : true ≡ false = sym fits.0 ∙ unfit in
-    absurd (cc)
+settled-front needs count line (asker ∷ more) rest parts fits settled = grind (arith, parts, fits.0, settled)
 
 -- a front that fits stays within the greatest count
 pub front-bounded : (needs : Needs) → AreNeeds needs → (count : ℕ) (front : List (ℕ × ℕ)) → IsFront needs count front → count ≤ needs.top
@@ -84,25 +81,16 @@ front-bounded needs lawful count (asker ∷ rest) fits small =
     omega (arith, front-bounded needs lawful (count + needs.takes asker.1) rest fits.1 (lawful.bounded count asker.1 fits.0))
 
 some-length : (line : List (ℕ × ℕ)) → is_empty line ≡ false → 0 < length line
-some-length [] some = absurd (cc)
-some-length (asker ∷ rest) some = omega arith
+some-length line some = grind (arith, some)
 
 -- a place that is seen in a line waits there
 pub in-waits : (place : ℕ) (line : List (ℕ × ℕ)) → is_in place line ≡ true → 0 < times place line
 in-waits place [] some = absurd (cc)
-in-waits place (asker ∷ rest) some =
-    elim (cases_Bool (asker.0 == place)) [
-      | inl same ↦ omega (arith, ap one_if same)
-      | inr apart ↦ omega (arith, in-waits place rest (rw apart at some))
-    ]
+in-waits place (asker ∷ rest) some = grind (arith, some, in-waits place rest)
 
 pub in-no : (place : ℕ) (line : List (ℕ × ℕ)) → is_in place line ≡ false → times place line ≡ 0
 in-no place [] none = refl
-in-no place (asker ∷ rest) none =
-    elim (cases_Bool (asker.0 == place)) [
-      | inl same ↦ let wrong : true ≡ false = rw same at none in absurd (cc)
-      | inr apart ↦ omega (arith, ap one_if apart, in-no place rest (rw apart at none))
-    ]
+in-no place (asker ∷ rest) none = grind (arith, none, in-no place rest)
 
 -- how often a place stands in a line, by its parts
 pub times-parts : (place : ℕ) (line front rest : List (ℕ × ℕ)) → line ≡ front ++ rest
@@ -117,12 +105,6 @@ parts-linked words line cut uncut front rest was same parts =
     (subst (λ (l : List (ℕ × ℕ)). IsBehind words 0 l) same was.granted, subst (λ (l : List (ℕ × ℕ)). IsBehind words 0 l) left was.stays)
 
 -- Runs
-
--- an object that differs in nothing else
-same-state : (state : AbstractState) (count : ℕ) (line : List (ℕ × ℕ)) (unclosed : Bool) → state.count ≡ count → state.line ≡ line → state.unclosed ≡ unclosed
-    → state ≡ record state { count = count; line = line; unclosed = unclosed }
-same-state state count line unclosed same_count same_line same_unclosed =
-    λ i. record state { count = same_count i; line = same_line i; unclosed = same_unclosed i }
 
 -- the event of a grant, before the line is closed
 after-granted : (needs : Needs) (state : AbstractState) (me : ℕ) (front rest : List (ℕ × ℕ)) → state.line ≡ front ++ rest
@@ -141,7 +123,8 @@ granted-allowed needs state me front rest parts opened some fits =
 
 granted-none : (needs : Needs) (state : AbstractState) (me : ℕ) (rest : List (ℕ × ℕ)) (unclosed : Bool) → state.line ≡ rest → state.unclosed ≡ unclosed
     → state ≡ granted needs state me [] rest unclosed
-granted-none needs state me rest unclosed parts same = same-state state (state.count + 0) rest unclosed (omega arith) parts same
+granted-none needs state me rest unclosed parts same =
+    let none : state.count ≡ state.count + 0 = omega arith in λ i. record state { count = none i; line = parts i; unclosed = same i }
 
 -- Where a front is granted and the line stays open
 pub round-run : (needs : Needs) (state : AbstractState) (me : ℕ) (front rest : List (ℕ × ℕ)) → state.line ≡ front ++ rest → IsFront needs state.count front
@@ -155,9 +138,7 @@ round-run needs state me (asker ∷ more) rest parts fits settled =
         run = (granted-allowed needs state me (asker ∷ more) rest parts opened refl fits, after-granted needs state me (asker ∷ more) rest parts);
         names = refl;
       }
-      | inr closed ↦
-          let none : asker ∷ more ≡ [] = settled-front needs state.count state.line (asker ∷ more) rest parts fits (settled closed) in
-          absurd (cc)
+      | inr closed ↦ let none = settled-front needs state.count state.line (asker ∷ more) rest parts fits (settled closed) in absurd (cc)
     ]
 
 -- Where a front is granted and the line is closed; a line that wasn't open is settled, and nobody is granted
@@ -169,11 +150,7 @@ close-run needs state me [] rest parts fits closes settled =
       | inl opened ↦ record {
         events = Closed ∷ [];
         run = (
-          (
-            opened,
-            subst (λ (l : List (ℕ × ℕ)). IsSettledAt needs state.count l) (sym parts)
-                (subst (λ (n : ℕ). IsSettledAt needs n rest) (omega arith) closes),
-          ),
+          (opened, grind (arith, parts, closes)),
           ap (λ (z : AbstractState). record z { unclosed = false }) (granted-none needs state me rest state.unclosed parts refl),
         );
         names = refl;
@@ -195,9 +172,7 @@ close-run needs state me (asker ∷ more) rest parts fits closes settled =
             );
             names = refl;
           }
-      | inr closed ↦
-          let none : asker ∷ more ≡ [] = settled-front needs state.count state.line (asker ∷ more) rest parts fits (settled closed) in
-          absurd (cc)
+      | inr closed ↦ let none = settled-front needs state.count state.line (asker ∷ more) rest parts fits (settled closed) in absurd (cc)
     ]
 
 -- Seats and debts
@@ -217,11 +192,7 @@ due-apart state front rest place parts once due =
 pub held-granted : (needs : Needs) (state : AbstractState) (me : ℕ) (front rest : List (ℕ × ℕ)) (unclosed : Bool) (place : ℕ)
     → state.line ≡ front ++ rest → held_by place state ≤ 1 → held_by place (granted needs state me front rest unclosed) ≡ held_by place state
 held-granted needs state me front rest unclosed place parts once =
-    let both = times-parts place state.line front rest parts in
-    elim (cases_Bool (is_in place front)) [
-      | inl some ↦ rw some (omega (arith, once, both, in-waits place front some))
-      | inr none ↦ rw none (omega (arith, both, in-no place front none))
-    ]
+    grind (arith, once, times-parts place state.line front rest parts, in-waits place front, in-no place front)
 
 pub debts-granted : (words : ℕ → LineWord) (state : AbstractState) (owed : ℕ → List (ℕ × ℕ)) (answer_value : ℕ → ℕ) (me value : ℕ) (front rest : List (ℕ × ℕ))
     → AreDebts words state.due state.granter owed answer_value → value < 256 → state.line ≡ front ++ rest → ((place : ℕ) → held_by place state ≤ 1) → owed me ≡ [] → IsBehind words 0 front
@@ -238,19 +209,7 @@ debts-granted words state owed answer_value me value front rest was fits parts o
       let out : is_in other front ≡ false = due-apart state front rest other parts (once other) (ap is_some old.1) in
       (rw out old.0, rw (out, number_other other_place me apart) old.1))
       place;
-  paid_by = λ other due.
-      elim (cases_Bool (is_in other front)) [
-        | inl there ↦ rw (there, number_same me) there
-        | inr out ↦
-            let old : is_in other (owed (state.granter other)) ≡ true = was.paid_by other (rw out at due) in
-            elim (cases_Bool (state.granter other == me)) [
-              | inl same ↦
-                  let empty : owed (state.granter other) ≡ [] = ap owed (same_number (state.granter other) me same) ∙ none in
-                  let wrong : false ≡ true = rw empty at old in
-                  absurd (cc)
-              | inr apart ↦ rw (out, apart) old
-            ]
-      ];
+  paid_by = λ other due. grind (arith, nat_tests, due, number_same me, ap (is_in other) none, was.paid_by other);
   once = λ place other.
       each-updated (λ (n : ℕ) (l : List (ℕ × ℕ)). times other l ≤ 1) owed me front
       (let both = times-parts other state.line front rest parts in omega (arith, both, once other))

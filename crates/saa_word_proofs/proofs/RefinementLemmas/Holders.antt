@@ -1,6 +1,5 @@
 -- Where nobody waits nobody holds the flag; and the main word as an exchange has written it.
-use Rattle.std.proofs.Common.{◌≡◌, ℕ, ◌+◌, ◌<◌, ◌≤◌, pred, true, false, not, List, [], ◌∷◌, ◌++◌, ◌==◌, refl, sym, ap, ◌∙◌, arith, inl, inr}
-use Rattle.std.proofs.lemmas.Bool.{cases_Bool}
+use Rattle.std.proofs.Common.{◌≡◌, ℕ, ◌+◌, ◌<◌, ◌≤◌, pred, true, false, not, List, [], ◌∷◌, ◌++◌, ◌==◌, refl, sym, ap, ◌∙◌, arith}
 use Rattle.std.proofs.lemmas.Bool.Decides.{nat_tests}
 use Rattle.saa_core_words.specs.declared.word.Word.{Word}
 use Rattle.saa_core_words.specs.declared.line_word.LineWord.{LineWord}
@@ -19,8 +18,7 @@ use Rattle.saa_word_proofs.proofs.RefinementLemmas.Rows.{word-whole}
 
 -- a line whose front or whose rest isn't empty isn't empty
 pub some-append : (front behind : List (ℕ × ℕ)) → is_empty front ≡ false → is_empty (front ++ behind) ≡ false
-some-append [] behind some = absurd (cc)
-some-append (asker ∷ rest) behind some = refl
+some-append front behind some = grind (arith, some)
 
 pub some-behind : (front behind : List (ℕ × ℕ)) → is_empty behind ≡ false → is_empty (front ++ behind) ≡ false
 some-behind [] behind some = some
@@ -56,14 +54,11 @@ holding-some needs words me held line cut _ h = absurd h
 pub nobody-holds : (needs : Needs) (places : ℕ) (row : ℕ → ℕ) (standing : ℕ → Place) (state : AbstractState) (s : Invariant needs places row standing state)
     → is_empty state.line ≡ true → s.holder == 0 ≡ true
 nobody-holds needs places row standing state s none =
-    elim (cases_Bool (s.holder == 0)) [
-      | inl nobody ↦ nobody
-      | inr somebody ↦
-          let is : s.holder ≡ pred s.holder + 1 = grind (arith, nat_tests, somebody) in
-          let some = holding-some needs (line_of row) (pred s.holder) state.count state.line s.cut (standing (pred s.holder)).stage (s.stages.holding (pred s.holder) is) in
-          let wrong : true ≡ false = sym none ∙ some in
-          absurd (cc)
-    ]
+    let some : s.holder == 0 ≡ false → is_empty state.line ≡ false =
+    λ held.
+    let is : s.holder ≡ pred s.holder + 1 = grind (arith, nat_tests, held) in
+    holding-some needs (line_of row) (pred s.holder) state.count state.line s.cut (standing (pred s.holder)).stage (s.stages.holding (pred s.holder) is) in
+    grind (arith, none, some)
 
 -- the main word that an exchange has written
 pub main-now : (needs : Needs) (state : AbstractState) (holder : ℕ) (word : Word) → IsSmall word → word.tail < 65536
@@ -86,12 +81,8 @@ main-now needs state holder word small tail_small count tail flag poison barren 
 -- where somebody waits, or holds the flag, nothing is poisoned
 pub calm-some : (needs : Needs) (number : ℕ) (state : AbstractState) (holder : ℕ) → IsMain needs number state holder → is_empty state.line ≡ false → state.poisoned ≡ false
 calm-some needs number state holder main some =
-    elim (cases_Bool state.poisoned) [
-      | inl poisoned ↦
-          let wrong : true ≡ false = sym (ap is_empty (main.barren poisoned).1) ∙ some in
-          absurd (cc)
-      | inr calm ↦ calm
-    ]
+    let empty : state.poisoned ≡ true → is_empty state.line ≡ true = λ poisoned. ap is_empty (main.barren poisoned).1 in
+    grind (arith, some, empty)
 
 pub calm-held : (needs : Needs) (places : ℕ) (row : ℕ → ℕ) (standing : ℕ → Place) (state : AbstractState) (me : ℕ) (s : Invariant needs places row standing state)
     → s.holder ≡ me + 1 → state.poisoned ≡ false

@@ -1,6 +1,7 @@
 -- Steps of a place that asks and has to write: the count, its line word, the tail.
-use Rattle.std.proofs.Common.{◌^◌, ◌≡◌, ℕ, ◌+◌, ◌<◌, ◌≤◌, Bool, true, false, List, [], ◌∷◌, ◌++◌, ◌==◌, Option, Some, None, is_some, refl, sym, ap, subst, ◌∙◌, arith, inl, inr, append-nil, append_assoc}
+use Rattle.std.proofs.Common.{◌^◌, ◌≡◌, ℕ, ◌+◌, ◌<◌, ◌≤◌, true, false, List, [], ◌∷◌, ◌++◌, ◌==◌, Option, None, is_some, refl, sym, ap, subst, ◌∙◌, arith, inl, inr, append-nil, append_assoc}
 use Rattle.std.proofs.lemmas.Bool.{cases_Bool}
+use Rattle.std.proofs.lemmas.Bool.Decides.{nat_tests}
 use Rattle.saa_core_spec.specs.Object.{one_if, times}
 use Rattle.saa_core_spec.proofs.Counts.{same_number, number_other, one_if-same, times-append}
 use Rattle.saa_core_words.specs.declared.word.Word.{Word}
@@ -20,10 +21,10 @@ use Rattle.saa_word_steps.proofs.AbstractRuns.{joined-settled}
 use Rattle.saa_word_proofs.specs.Refinement.{joins_line, newest, is_holder, IsOwn, waits_behind, IsMain, IsLine, AreSeats, AreDebts, AreStages, Invariant}
 use Rattle.saa_word_proofs.specs.Rows.{line_of, main_of, updated}
 use Rattle.saa_word_proofs.specs.Registering.{is_slot}
-use Rattle.saa_word_proofs.proofs.RefinementLemmas.Lists.{each-updated, newest-empty, newest-append, newest-any, empty-nil, in-none, in-append, behind-append, in-some, front-none}
+use Rattle.saa_word_proofs.proofs.RefinementLemmas.Lists.{each-updated, newest-empty, newest-append, newest-uncut, empty-nil, in-none, in-append, behind-append, in-some, front-none}
 use Rattle.saa_word_proofs.proofs.RefinementLemmas.Frames.{holding-frame, stages-next}
 use Rattle.saa_word_proofs.proofs.RefinementLemmas.Rows.{IsOwnStep, IsStep, at-stage, main-found, line-main, line-at, line-other, row-other, seats-next, seats-by, line-kept, debts-kept, answers-kept}
-use Rattle.saa_word_proofs.proofs.RefinementLemmas.Holders.{nobody-holds, main-now, never-barren}
+use Rattle.saa_word_proofs.proofs.RefinementLemmas.Holders.{some-behind, nobody-holds, main-now, never-barren}
 use Rattle.saa_word_proofs.proofs.RefinementLemmas.Asking.{decided-outcome, waits-same}
 use Rattle.saa_word_proofs.proofs.RefinementLemmas.Outcomes.{silent, exchanged, not-holder, only-looked}
 
@@ -61,10 +62,8 @@ step-AcquireExchange ask seen needs lawful wide places row standing state me roo
       | inl same ↦
           let is : main_of row ≡ seen = main-found (row 0) seen known.ranged.0 (omega (arith, same_number seen.tail 0 known.alone.2)) same in
           let calm : state.poisoned ≡ false = sym s.main.poison ∙ ap (λ (w : Word). w.is_poisoned) is ∙ known.alone.3 in
-          let tail : state.line ≡ [] =
-          empty-nil state.line (sym (newest-empty state.line) ∙ ap (λ (n : ℕ). n == 0) (sym s.main.tail ∙ ap (λ (w : Word). w.tail) is) ∙ known.alone.2) in
-          let fits : fits_count needs state.count ask.request ≡ true =
-          ap (λ (n : ℕ). fits_count needs n ask.request) (sym s.main.count ∙ ap (λ (w : Word). w.count) is) ∙ known.ranged.1 in
+          let tail = empty-nil state.line (sym (newest-empty state.line) ∙ ap (λ (n : ℕ). n == 0) (sym s.main.tail ∙ ap (λ (w : Word). w.tail) is) ∙ known.alone.2) in
+          let fits = ap (λ (n : ℕ). fits_count needs n ask.request) (sym s.main.count ∙ ap (λ (w : Word). w.count) is) ∙ known.ranged.1 in
           record {
             events = Acquired ask.request ∷ [];
             last = record state { count = state.count + needs.takes ask.request };
@@ -88,11 +87,7 @@ pub outside : (needs : Needs) (places : ℕ) (row : ℕ → ℕ) (standing : ℕ
     → is_slot (standing me).registration ≡ false → (times me state.line ≡ 0) × (is_some (state.due me) ≡ false) × (is_some (state.shown me) ≡ false)
 outside needs places row standing state me s idle =
     let held : held_by me state ≡ 0 = s.seats.held me ∙ ap one_if idle in
-    (omega (arith, held), none-one (is_some (state.due me)) (omega (arith, held)), none-one (is_some (state.shown me)) (omega (arith, held)))
-  where
-    none-one : (mark : Bool) → one_if mark ≡ 0 → mark ≡ false
-    none-one true is = absurd (omega (arith, is))
-    none-one false is = refl
+    (omega (arith, held), grind (arith, held), grind (arith, held))
 
 -- a place writes its own line word before it joins
 pub step-Prepare : (request : ℕ) (seen : Word) → IsOwnStep (Prepare request seen)
@@ -145,9 +140,7 @@ held-joined places standing state me request was idle =
     each-updated (λ (n : ℕ) (p : Place). held_by n (record state { line = state.line ++ (me, request) ∷ [] }) ≡ one_if (is_slot p.registration))
     standing me (record (standing me) { registration = Queued request; stage = Quiet })
     (omega (arith, was.held me, ap one_if idle, times-append me state.line ((me, request) ∷ []), one_if-same me))
-    (λ other apart.
-    let test : me == other ≡ false = number_other me other (λ is. apart (sym is)) in
-    omega (arith, was.held other, times-append other state.line ((me, request) ∷ []), ap one_if test))
+    (λ other apart. grind (arith, nat_tests, apart, was.held other, times-append other state.line ((me, request) ∷ [])))
 
 -- A place joins the line
 joined : (needs : Needs) → AreNeeds needs → needs.top < 2 ^ count_bits → (places : ℕ) (row : ℕ → ℕ) (standing : ℕ → Place) (state : AbstractState) (me : ℕ)
@@ -163,13 +156,6 @@ joined needs lawful wide places row standing state me room here s none nothing c
     let number : ℕ = word_number count_bits word in
     let place : Place = record (standing me) { registration = Queued request; stage = Quiet } in
     let after : List (ℕ × ℕ) = state.line ++ (me, request) ∷ [] in
-    let older : newest 0 state.line ≡ newest 0 s.uncut =
-    elim (cases_Bool (is_empty s.uncut)) [
-      | inl gone ↦
-          let no_cut : s.cut ≡ [] = s.line.some gone in
-          ap (newest 0) (s.line.parts ∙ ap (λ (l : List (ℕ × ℕ)). l ++ s.uncut) no_cut)
-      | inr some ↦ ap (newest 0) s.line.parts ∙ newest-append 0 s.cut s.uncut ∙ newest-any (newest 0 s.cut) 0 s.uncut some
-    ] in
     record {
       holder = s.holder;
       cut = s.cut;
@@ -184,8 +170,8 @@ joined needs lawful wide places row standing state me room here s none nothing c
       line = subst (λ (w : ℕ → LineWord). IsLine w after s.cut (s.uncut ++ (me, request) ∷ [])) (sym (line-main row number)) (record {
         parts = ap (λ (l : List (ℕ × ℕ)). l ++ (me, request) ∷ []) s.line.parts ∙ append_assoc s.cut s.uncut ((me, request) ∷ []);
         granted = s.line.granted;
-        stays = behind-append (line_of row) 0 s.uncut ((me, request) ∷ []) s.line.stays (own.0, own.1 ∙ tail ∙ older, tt);
-        some = λ none. absurd (never s.uncut none);
+        stays = behind-append (line_of row) 0 s.uncut ((me, request) ∷ []) s.line.stays (own.0, own.1 ∙ tail ∙ newest-uncut state.line s.cut s.uncut s.line.parts s.line.some, tt);
+        some = λ none. let wrong : true ≡ false = sym none ∙ some-behind s.uncut ((me, request) ∷ []) refl in absurd (cc);
       });
       seats = seats-by places standing state (record state { line = after }) me place s.seats (held-joined places standing state me request s.seats idle)
           (λ slot. here) (λ out. refl);
@@ -205,10 +191,6 @@ joined needs lawful wide places row standing state me room here s none nothing c
     not-joined : (other : ℕ) → (other ≡ me → ⊥) → is_in other ((me, request) ∷ []) ≡ false
     not-joined other apart = rw (number_other me other (λ is. apart (sym is))) refl
 
-    never : (line : List (ℕ × ℕ)) → is_empty (line ++ (me, request) ∷ []) ≡ true → ⊥
-    never [] none = absurd (cc)
-    never (asker ∷ rest) none = absurd (cc)
-
 -- a place joins the line, where the main word is as it saw it, and else is decided by the main word as it stands
 pub step-Join : (request : ℕ) (seen : Word) → IsOwnStep (Join request seen)
 step-Join request seen needs lawful wide places row standing state me room here s at =
@@ -218,8 +200,7 @@ step-Join request seen needs lawful wide places row standing state me room here 
       | inl same ↦
           let is : main_of row ≡ seen = main-found (row 0) seen known.ranged known.alone.2 same in
           let calm : state.poisoned ≡ false = sym s.main.poison ∙ ap (λ (w : Word). w.is_poisoned) is ∙ known.alone.4 in
-          let waits : must_wait needs state request ≡ true =
-          sym (waits-same needs places row standing state s request) ∙ ap (λ (w : Word). waits_behind needs w request) is ∙ known.alone.3 in
+          let waits = sym (waits-same needs places row standing state s request) ∙ ap (λ (w : Word). waits_behind needs w request) is ∙ known.alone.3 in
           let out = outside needs places row standing state me s known.alone.1 in
           record {
             events = Joined request ∷ [];
@@ -236,5 +217,4 @@ step-Join request seen needs lawful wide places row standing state me room here 
     ]
   where
     none-of : (answer : Option ℕ) → is_some answer ≡ false → answer ≡ None
-    none-of None none = refl
-    none-of (Some value) none = absurd (cc)
+    none-of answer none = grind (arith, none)

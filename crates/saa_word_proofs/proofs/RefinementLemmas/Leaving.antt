@@ -1,8 +1,9 @@
 -- The holder of the flag leaves the line: what this leaves of the object, of the seats and of what the others remember.
 use Rattle.std.proofs.Common.{◌≡◌, ℕ, ◌+◌, ◌<◌, ◌≤◌, true, false, not, List, [], ◌∷◌, ◌++◌, ◌==◌, is_some, refl, sym, ap, subst, ◌∙◌, arith, inl, inr, append_assoc}
 use Rattle.std.proofs.lemmas.Bool.{cases_Bool}
+use Rattle.std.proofs.lemmas.Bool.Decides.{nat_tests}
 use Rattle.saa_core_spec.specs.Object.{one_if, times, without}
-use Rattle.saa_core_spec.proofs.Counts.{number_same, same_number, number_other, one_if-same, times-append}
+use Rattle.saa_core_spec.proofs.Counts.{number_same, number_other, one_if-same, times-append}
 use Rattle.saa_core_words.specs.declared.word.Word.{Word}
 use Rattle.saa_core_words.specs.declared.line_word.LineWord.{LineWord}
 use Rattle.saa_word_steps.specs.declared.place.Place.{Place}
@@ -17,11 +18,11 @@ use Rattle.saa_word_proofs.specs.Refinement.{newest, is_holder, gives_up, IsLoca
 use Rattle.saa_word_proofs.specs.Rows.{IsBehind, line_of, updated}
 use Rattle.saa_word_proofs.specs.Registering.{is_slot}
 use Rattle.saa_word_proofs.specs.History.{of_place}
-use Rattle.saa_word_proofs.proofs.RefinementLemmas.Lists.{each-updated, in-none, in-some, newest-append, newest-in, empty-nil, behind-append, behind-same, behind-front, behind-rest}
+use Rattle.saa_word_proofs.proofs.RefinementLemmas.Lists.{each-updated, in-none, in-some, newest-append, newest-in, behind-append, behind-same, behind-front, behind-rest}
 use Rattle.saa_word_proofs.proofs.RefinementLemmas.Frames.{stages-next}
 use Rattle.saa_word_proofs.proofs.RefinementLemmas.Rows.{own-any, seats-by, debts-kept, answers-kept}
-use Rattle.saa_word_proofs.proofs.RefinementLemmas.Granting.{in-waits, in-no}
-use Rattle.saa_word_proofs.proofs.RefinementLemmas.Linking.{apart-by, in-line, line-room}
+use Rattle.saa_word_proofs.proofs.RefinementLemmas.Granting.{in-waits, in-no, held-once}
+use Rattle.saa_word_proofs.proofs.RefinementLemmas.Linking.{in-line, line-room}
 
 -- The object once a place has left the line, with the waiters that are left
 abbrev pub left : AbstractState → List (ℕ × ℕ) → AbstractState
@@ -32,21 +33,13 @@ left state rest = record state { line = rest; unclosed = not (is_empty rest) }
 -- a line without a place that doesn't wait is as it was
 pub without-out : (place : ℕ) (line : List (ℕ × ℕ)) → is_in place line ≡ false → without place line ≡ line
 without-out place [] out = refl
-without-out place (asker ∷ rest) out =
-    elim (cases_Bool (asker.0 == place)) [
-      | inl same ↦ let wrong : true ≡ false = rw same at out in absurd (cc)
-      | inr apart ↦ rw apart (ap (λ (l : List (ℕ × ℕ)). asker ∷ l) (without-out place rest (rw apart at out)))
-    ]
+without-out place (asker ∷ rest) out = grind (arith, out, without-out place rest)
 
 -- each part of a line is left for itself
 pub without-append : (place : ℕ) (front behind : List (ℕ × ℕ))
     → without place (front ++ behind) ≡ without place front ++ without place behind
 without-append place [] behind = refl
-without-append place (asker ∷ rest) behind =
-    elim (cases_Bool (asker.0 == place)) [
-      | inl same ↦ rw same (without-append place rest behind)
-      | inr apart ↦ rw apart (ap (λ (l : List (ℕ × ℕ)). asker ∷ l) (without-append place rest behind))
-    ]
+without-append place (asker ∷ rest) behind = grind (arith, without-append place rest behind)
 
 -- how often a place waits where one of the line is left out
 pub times-left : (place : ℕ) (before after : List (ℕ × ℕ)) (asker : ℕ × ℕ)
@@ -58,12 +51,9 @@ pub without-once : (place request : ℕ) (before after : List (ℕ × ℕ)) → 
     → without place (before ++ (place, request) ∷ after) ≡ before ++ after
 without-once place request before after once =
     let all = times-append place before ((place, request) ∷ after) in
-    let out_before : is_in place before ≡ false = in-none place before (omega (arith, once, all, one_if-same place)) in
-    let out_after : is_in place after ≡ false = in-none place after (omega (arith, once, all, one_if-same place)) in
-    let here : without place ((place, request) ∷ after) ≡ after = rw (number_same place) (without-out place after out_after) in
-    without-append place before ((place, request) ∷ after)
-    ∙ ap (λ (l : List (ℕ × ℕ)). l ++ without place ((place, request) ∷ after)) (without-out place before out_before)
-    ∙ ap (λ (l : List (ℕ × ℕ)). before ++ l) here
+    let out_before = without-out place before (in-none place before (omega (arith, once, all, one_if-same place))) in
+    let out_after = without-out place after (in-none place after (omega (arith, once, all, one_if-same place))) in
+    grind (arith, number_same place, without-append place before ((place, request) ∷ after), out_before, out_after)
 
 -- a place that isn't in a line isn't in one that another has left
 pub out-left : (place : ℕ) (line before after : List (ℕ × ℕ)) (asker : ℕ × ℕ) → line ≡ before ++ asker ∷ after
@@ -75,14 +65,10 @@ out-left place line before after asker parts out =
 -- nobody is behind a place that waits once and is the newest of the line
 pub alone-behind : (me request : ℕ) (before joined : List (ℕ × ℕ)) → times me (before ++ (me, request) ∷ joined) ≡ 1
     → newest 0 (before ++ (me, request) ∷ joined) ≡ me + 1 → joined ≡ []
-alone-behind me request before joined once last =
-    elim (cases_Bool (is_empty joined)) [
-      | inl none ↦ empty-nil joined none
-      | inr some ↦
-          let again : 0 < times me joined =
-          newest-in (me + 1) me joined some (sym (newest-append 0 before ((me, request) ∷ joined)) ∙ last) in
-          absurd (omega (arith, again, once, times-append me before ((me, request) ∷ joined), one_if-same me))
-    ]
+alone-behind me request before [] once last = refl
+alone-behind me request before (asker ∷ rest) once last =
+    let again = newest-in (me + 1) me (asker ∷ rest) refl (sym (newest-append 0 before ((me, request) ∷ (asker ∷ rest))) ∙ last) in
+    absurd (omega (arith, again, once, times-append me before ((me, request) ∷ (asker ∷ rest)), one_if-same me))
 
 -- the line with the holder in it, as it found itself, and those behind it
 pub found-parts : (me held older : ℕ) (line : List (ℕ × ℕ)) (seen : Word) (work : Work held line seen) (found : IsFound me work.front older)
@@ -117,29 +103,20 @@ pub unlinked : (words new : ℕ → LineWord) (before rest : List (ℕ × ℕ)) 
     → IsBehind new 0 (before ++ (asker ∷ rest))
 unlinked words new before rest gone asker linked once request older others =
     let second = behind-rest words 0 before (gone ∷ (asker ∷ rest)) linked in
+    let all = times-append asker.0 before (gone ∷ (asker ∷ rest)) in
     behind-append new 0 before (asker ∷ rest)
-    (behind-same words new 0 before (λ place there. others place (not-before place there)) (behind-front words 0 before (gone ∷ (asker ∷ rest)) linked)) (
+    (behind-same words new 0 before (λ place there. others place (λ is. omega (arith, once, all, one_if-same asker.0, there, ap (λ (n : ℕ). times n before) is)))
+    (behind-front words 0 before (gone ∷ (asker ∷ rest)) linked)) (
       request ∙ second.2.0,
       older,
-      behind-same words new (asker.0 + 1) rest (λ place there. others place (not-behind place there)) second.2.2,
+      behind-same words new (asker.0 + 1) rest
+          (λ place there. others place (λ is. omega (arith, once, all, one_if-same asker.0, there, ap (λ (n : ℕ). times n rest) is))) second.2.2,
     )
-  where
-    not-before : (place : ℕ) → 0 < times place before → place ≡ asker.0 → ⊥
-    not-before place there is =
-        omega (arith, once, times-append asker.0 before (gone ∷ (asker ∷ rest)), one_if-same asker.0, there, ap (λ (n : ℕ). times n before) is)
-
-    not-behind : (place : ℕ) → 0 < times place rest → place ≡ asker.0 → ⊥
-    not-behind place there is =
-        omega (arith, once, times-append asker.0 before (gone ∷ (asker ∷ rest)), one_if-same asker.0, there, ap (λ (n : ℕ). times n rest) is)
 
 -- a line word that is written with another older link leaves the places that the newer ones name
 pub newer-same : (words new : ℕ → LineWord) (at : ℕ) → (new at).newer ≡ (words at).newer → ((place : ℕ) → (place ≡ at → ⊥) → new place ≡ words place)
     → (place : ℕ) → (new place).newer ≡ (words place).newer
-newer-same words new at newer others place =
-    elim (cases_Bool (place == at)) [
-      | inl here ↦ subst (λ (n : ℕ). (new n).newer ≡ (words n).newer) (sym (same_number place at here)) newer
-      | inr apart ↦ ap (λ (w : LineWord). w.newer) (others place (apart-by place at apart))
-    ]
+newer-same words new at newer others place = grind (arith, nat_tests, newer, others place)
 
 -- Seats and debts
 
@@ -172,14 +149,9 @@ pub owed-out : (places : ℕ) (words : ℕ → LineWord) (standing : ℕ → Pla
     → AreSeats places standing state → AreDebts words state.due state.granter owed answer_value
     → (place other : ℕ) → 0 < times other (owed place) → is_in other state.line ≡ false
 owed-out places words standing state owed answer_value seats debts place other owes =
-    elim (cases_Bool (is_in other state.line)) [
-      | inl waits ↦
-          let due : is_some (state.due other) ≡ true = ap is_some (debts.due_to place other (in-some other (owed place) owes)).1 in
-          let none : is_some (state.due other) ≡ false = (in-line places standing state other seats (in-waits other state.line waits)).3 in
-          let wrong : true ≡ false = sym due ∙ none in
-          absurd (cc)
-      | inr out ↦ out
-    ]
+    let due : is_some (state.due other) ≡ true = ap is_some (debts.due_to place other (in-some other (owed place) owes)).1 in
+    let held : held_by other state ≤ 1 = held-once places standing state seats other in
+    grind (arith, due, held, in-waits other state.line)
 
 -- The whole
 

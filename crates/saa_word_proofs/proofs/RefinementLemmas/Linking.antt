@@ -1,7 +1,8 @@
 -- The holder of the flag writes the line word of a place that stands in the line: what this leaves as it was.
 use Rattle.std.proofs.Common.{◌≤◌, ◌≡◌, ℕ, ◌+◌, ◌<◌, pred, true, false, List, [], ◌∷◌, ◌++◌, ◌==◌, Some, is_some, refl, sym, ap, subst, ◌∙◌, arith, inl, inr}
 use Rattle.std.proofs.lemmas.Bool.{cases_Bool}
-use Rattle.saa_core_spec.specs.Object.{one_if, times}
+use Rattle.std.proofs.lemmas.Bool.Decides.{nat_tests}
+use Rattle.saa_core_spec.specs.Object.{times}
 use Rattle.saa_core_spec.proofs.Counts.{number_same, same_number}
 use Rattle.saa_core_words.specs.declared.word.Word.{Word}
 use Rattle.saa_core_words.specs.declared.line_word.LineWord.{LineWord}
@@ -14,7 +15,7 @@ use Rattle.saa_word_steps.specs.Steps.{IsRanged}
 use Rattle.saa_word_proofs.specs.Refinement.{joins_line, newest, oldest, IsAhead, is_holder, gives_up, IsLocallyTrue, IsOwn, IsShowing, Work, IsHolding, IsAt, IsMain, IsLine, AreSeats, Invariant}
 use Rattle.saa_word_proofs.specs.Rows.{IsBehind, line_of, updated}
 use Rattle.saa_word_proofs.specs.Registering.{is_slot}
-use Rattle.saa_word_proofs.proofs.RefinementLemmas.Lists.{in-some, behind-rest, newest-append, newest-last, empty-nil}
+use Rattle.saa_word_proofs.proofs.RefinementLemmas.Lists.{in-some, oldest-empty, behind-rest, newest-append, newest-any, newest-last, empty-nil}
 use Rattle.saa_word_proofs.proofs.RefinementLemmas.Frames.{stages-next, newest-stands, oldest-stands, work-behind}
 use Rattle.saa_word_proofs.proofs.RefinementLemmas.Rows.{line-other, row-other, own-any, seats-next, debts-kept, answers-kept}
 
@@ -31,53 +32,27 @@ apart-by one other apart is = let same : one == other ≡ true = ap (λ (n : ℕ
 pub in-line : (places : ℕ) (standing : ℕ → Place) (state : AbstractState) (place : ℕ) → AreSeats places standing state → 0 < times place state.line
     → (place < places) × (is_slot (standing place).registration ≡ true) × (times place state.line ≡ 1) × (is_some (state.due place) ≡ false)
 in-line places standing state place seats there =
-    elim (cases_Bool (is_slot (standing place).registration)) [
-      | inl slot ↦
-          let held = seats.held place ∙ ap one_if slot in
-          elim (cases_Bool (is_some (state.due place))) [
-            | inl due ↦ absurd (omega (arith, there, held, ap one_if due))
-            | inr none ↦ (seats.within place slot, slot, omega (arith, there, held), none)
-          ]
-      | inr other ↦ absurd (omega (arith, there, seats.held place, ap one_if other))
-    ]
+    let held = seats.held place in
+    let slot : is_slot (standing place).registration ≡ true = grind (arith, there, held) in
+    (seats.within place slot, slot, grind (arith, there, held), grind (arith, there, held))
 
 -- so the link to the oldest or the newest of those in line is that of a place
 pub oldest-room : (places : ℕ) (standing : ℕ → Place) (state : AbstractState) (seen : Word) (work : Work state.count state.line seen)
     → AreSeats places standing state → places < 65536 → oldest work.behind < 65536
 oldest-room places standing state seen work seats room =
-    elim (cases_Bool (is_empty work.behind)) [
-      | inl none ↦ rw (oldest-none work.behind none) (omega arith)
-      | inr some ↦
-          let there = oldest-stands work.behind (oldest work.behind) some refl in
-          omega (
-            arith,
-            there.1,
-            room,
-            (in-line places standing state (pred (oldest work.behind)) seats (work-behind state.count state.line seen work (pred (oldest work.behind)) there.0)).0,
-          )
-    ]
-  where
-    oldest-none : (line : List (ℕ × ℕ)) → is_empty line ≡ true → oldest line ≡ 0
-    oldest-none [] none = refl
-    oldest-none (asker ∷ rest) none = absurd (cc)
+    let small : is_empty work.behind ≡ false → oldest work.behind < 65536 =
+    λ some.
+    let there = oldest-stands work.behind (oldest work.behind) some refl in
+    omega (arith, there.1, room, (in-line places standing state (pred (oldest work.behind)) seats (work-behind state.count state.line seen work _ there.0)).0) in
+    grind (arith, nat_tests, small, oldest-empty work.behind)
 
 -- and the tail that the holder saw is that of a place too
 pub tail-room : (places : ℕ) (standing : ℕ → Place) (state : AbstractState) (seen : Word) (work : Work state.count state.line seen)
     → AreSeats places standing state → places < 65536 → is_empty work.behind ≡ false → seen.tail < 65536
 tail-room places standing state seen work seats room some =
-    let tail : seen.tail ≡ newest (newest 0 work.front) work.behind = work.tail ∙ newest-append 0 work.front work.behind in
-    let there = newest-stands-behind (newest 0 work.front) work.behind seen.tail some tail in
-    omega (
-      arith,
-      there.1,
-      room,
-      (in-line places standing state (pred seen.tail) seats (work-behind state.count state.line seen work (pred seen.tail) there.0)).0,
-    )
-  where
-    newest-stands-behind : (older : ℕ) (line : List (ℕ × ℕ)) (link : ℕ) → is_empty line ≡ false → link ≡ newest older line
-        → (0 < times (pred link) line) × (link ≡ pred link + 1)
-    newest-stands-behind older [] link some is = absurd (cc)
-    newest-stands-behind older (asker ∷ rest) link some is = newest-stands (asker ∷ rest) link refl is
+    let tail = work.tail ∙ newest-append 0 work.front work.behind ∙ newest-any (newest 0 work.front) 0 work.behind some in
+    let there = newest-stands work.behind seen.tail some tail in
+    omega (arith, there.1, room, (in-line places standing state (pred seen.tail) seats (work-behind state.count state.line seen work _ there.0)).0)
 
 -- Numbers of a line word are within their bits
 pub line-room : (number : ℕ) → ((line_word_of number).request < 65536) × ((line_word_of number).older < 65536) × ((line_word_of number).newer < 65536)
@@ -145,48 +120,39 @@ pub record IsLooked (words : ℕ → LineWord) (held : ℕ) (line : List (ℕ ×
   pub ahead : IsAhead words rest
   pub last : is_empty rest ≡ true → seen.tail ≡ current
 
--- a line in which somebody stands has an oldest
-record IsBegun (line : List (ℕ × ℕ)) : Type 0 where
-  asker : ℕ × ℕ
-  rest : List (ℕ × ℕ)
-  is : line ≡ asker ∷ rest
-
-begun : (line : List (ℕ × ℕ)) → is_empty line ≡ false → IsBegun line
-begun [] some = absurd (cc)
-begun (asker ∷ rest) some = record { asker = asker; rest = rest; is = refl }
-
 -- a waiter that is linked to the next one, and those behind are linked too
 ahead-rest : (words : ℕ → LineWord) (asker : ℕ × ℕ) (rest : List (ℕ × ℕ))
     → IsAhead words (asker ∷ rest) → (is_empty rest ≡ false → (words asker.0).newer ≡ oldest rest) × IsAhead words rest
-ahead-rest words asker [] ahead = (λ some. absurd (cc), tt)
-ahead-rest words asker (next ∷ rest) ahead = (λ some. ahead.0, ahead.1)
+ahead-rest words asker rest ahead = (λ some. grind (arith, ahead, some), grind (arith, ahead))
 
 -- a holder that looks at the first of those behind the front finds it so
 pub looked : (words : ℕ → LineWord) (held : ℕ) (line : List (ℕ × ℕ)) (seen : Word) (work : Work held line seen) (current : ℕ)
     → IsBehind words 0 line → IsAt words work.behind current → IsLooked words held line seen work current
-looked words held line seen work current linked at =
-    let first = begun work.behind at.1 in
-    let parts : line ≡ work.front ++ ((first.asker ∷ first.rest) ++ work.joined) =
-    work.parts ∙ ap (λ (l : List (ℕ × ℕ)). work.front ++ (l ++ work.joined)) first.is in
-    let link : current ≡ first.asker.0 + 1 = at.0 ∙ ap oldest first.is in
-    let place : pred current ≡ first.asker.0 = omega (arith, link) in
-    let there = behind-rest words 0 work.front ((first.asker ∷ first.rest) ++ work.joined) (subst (λ l. IsBehind words 0 l) parts linked) in
-    let ahead = ahead-rest words first.asker first.rest (subst (λ l. IsAhead words l) first.is at.2) in
-    record {
-      asker = first.asker;
-      rest = first.rest;
-      behind = first.is;
-      link = link;
-      request = ap (λ (n : ℕ). (words n).request) place ∙ there.0;
-      older = ap (λ (n : ℕ). (words n).older) place ∙ there.1;
-      newer = λ some. ap (λ (n : ℕ). (words n).newer) place ∙ ahead.0 some;
-      ahead = ahead.1;
-      last = λ none.
-          work.tail
-          ∙ ap (λ (l : List (ℕ × ℕ)). newest 0 (work.front ++ l))
-          (first.is ∙ ap (λ (l : List (ℕ × ℕ)). first.asker ∷ l) (empty-nil first.rest none))
-          ∙ newest-last 0 work.front first.asker ∙ sym link;
-    }
+looked words held line seen work current linked at = by work.behind refl
+  where
+    by : (behind : List (ℕ × ℕ)) → work.behind ≡ behind → IsLooked words held line seen work current
+    by [] is = let wrong : true ≡ false = sym (ap is_empty is) ∙ at.1 in absurd (cc)
+    by (asker ∷ rest) is =
+        let parts = work.parts ∙ ap (λ (l : List (ℕ × ℕ)). work.front ++ (l ++ work.joined)) is in
+        let link : current ≡ asker.0 + 1 = at.0 ∙ ap oldest is in
+        let place : pred current ≡ asker.0 = omega (arith, link) in
+        let there = behind-rest words 0 work.front ((asker ∷ rest) ++ work.joined) (subst (λ l. IsBehind words 0 l) parts linked) in
+        let ahead = ahead-rest words asker rest (subst (λ l. IsAhead words l) is at.2) in
+        record {
+          asker = asker;
+          rest = rest;
+          behind = is;
+          link = link;
+          request = ap (λ (n : ℕ). (words n).request) place ∙ there.0;
+          older = ap (λ (n : ℕ). (words n).older) place ∙ there.1;
+          newer = λ some. ap (λ (n : ℕ). (words n).newer) place ∙ ahead.0 some;
+          ahead = ahead.1;
+          last = λ none.
+              work.tail
+              ∙ ap (λ (l : List (ℕ × ℕ)). newest 0 (work.front ++ l))
+              (is ∙ ap (λ (l : List (ℕ × ℕ)). asker ∷ l) (empty-nil rest none))
+              ∙ newest-last 0 work.front asker ∙ sym link;
+        }
 
 -- the line words that link a line from which nobody is cut off
 pub linked-all : (words : ℕ → LineWord) (line cut uncut : List (ℕ × ℕ)) → IsLine words line cut uncut → cut ≡ [] → IsBehind words 0 line

@@ -2,7 +2,7 @@
 use Rattle.std.proofs.Common.{◌≡◌, ℕ, ◌+◌, ◌<◌, ◌≤◌, Bool, true, false, ◌||◌, List, [], ◌∷◌, ◌++◌, length, take, drop, ◌==◌, refl, sym, ap, subst, ◌∙◌, arith, inl, inr}
 use Rattle.std.proofs.lemmas.Bool.{cases_Bool}
 use Rattle.std.proofs.lemmas.Bool.Decides.{nat_tests}
-use Rattle.saa_core_spec.specs.Object.{one_if, times}
+use Rattle.saa_core_spec.specs.Object.{times}
 use Rattle.saa_core_spec.proofs.Counts.{number_same, same_number, one_if-same}
 use Rattle.saa_core_words.specs.declared.line_word.LineWord.{LineWord}
 use Rattle.saa_word_steps.specs.Needs.{Needs, AreNeeds}
@@ -11,8 +11,7 @@ use Rattle.saa_word_proofs.specs.Refinement.{newest, oldest, IsAhead}
 use Rattle.saa_word_proofs.specs.Rows.{IsBehind, updated}
 
 pub neither : (one other : Bool) → one || other ≡ false → (one ≡ false) × (other ≡ false)
-neither true other is = absurd (cc)
-neither false other is = (refl, is)
+neither one other is = (grind (arith, is), grind (arith, is))
 
 -- functions that agree everywhere are one
 pub all-same : {A : Type 0} (f g : ℕ → A) → ((n : ℕ) → f n ≡ g n) → f ≡ g
@@ -21,11 +20,7 @@ all-same f g same = λ i n. same n i
 -- an update that writes what stood there changes nothing
 pub updated-same : {A : Type 0} (old : ℕ → A) (at : ℕ) (value : A) → value ≡ old at → updated old at value ≡ old
 updated-same old at value is =
-    all-same (updated old at value) old (λ other.
-    elim (cases_Bool (other == at)) [
-      | inl same ↦ rw same (is ∙ ap old (sym (same_number other at same)))
-      | inr apart ↦ rw apart refl
-    ])
+    all-same (updated old at value) old (λ other. grind (arith, nat_tests, is))
 
 pub updated-at : {A : Type 0} (old : ℕ → A) (at : ℕ) (value : A) → updated old at value at ≡ value
 updated-at old at value = rw (number_same at) refl
@@ -48,28 +43,16 @@ each-updated P old at value here others other =
 
 pub in-none : (place : ℕ) (line : List (ℕ × ℕ)) → times place line ≡ 0 → is_in place line ≡ false
 in-none place [] none = refl
-in-none place (asker ∷ rest) none =
-    elim (cases_Bool (asker.0 == place)) [
-      | inl same ↦ absurd (omega (arith, none, ap one_if same))
-      | inr apart ↦ rw apart (in-none place rest (omega (arith, none)))
-    ]
+in-none place (asker ∷ rest) none = grind (arith, none, in-none place rest)
 
 pub in-append : (place : ℕ) (front behind : List (ℕ × ℕ)) → is_in place (front ++ behind) ≡ (is_in place front || is_in place behind)
 in-append place [] behind = refl
-in-append place (asker ∷ rest) behind =
-    elim (cases_Bool (asker.0 == place)) [
-      | inl same ↦ rw same refl
-      | inr apart ↦ rw apart (in-append place rest behind)
-    ]
+in-append place (asker ∷ rest) behind = grind (arith, in-append place rest behind)
 
 -- whose times are counted is in
 pub in-some : (place : ℕ) (line : List (ℕ × ℕ)) → 0 < times place line → is_in place line ≡ true
 in-some place [] some = absurd (omega (arith, some))
-in-some place (asker ∷ rest) some =
-    elim (cases_Bool (asker.0 == place)) [
-      | inl same ↦ rw same refl
-      | inr apart ↦ rw apart (in-some place rest (omega (arith, some, ap one_if apart)))
-    ]
+in-some place (asker ∷ rest) some = grind (arith, some, in-some place rest)
 
 -- Ends of a line
 
@@ -79,30 +62,31 @@ newest-append older (asker ∷ rest) behind = newest-append (asker.0 + 1) rest b
 
 -- the newest of a line that isn't empty doesn't depend on the place before the line
 pub newest-any : (one other : ℕ) (line : List (ℕ × ℕ)) → is_empty line ≡ false → newest one line ≡ newest other line
-newest-any one other [] some = absurd (cc)
-newest-any one other (asker ∷ rest) some = refl
+newest-any one other line some = grind (arith, some)
 
 pub newest-some : (older : ℕ) (line : List (ℕ × ℕ)) → is_empty line ≡ false → 0 < newest older line
 newest-some older [] some = absurd (cc)
-newest-some older (asker ∷ []) some = omega arith
-newest-some older (asker ∷ (next ∷ rest)) some = newest-some (asker.0 + 1) (next ∷ rest) refl
+newest-some older (asker ∷ rest) some = grind (arith, newest-some (asker.0 + 1) rest)
 
 -- nobody is the newest exactly where nobody stands in the line
 pub newest-empty : (line : List (ℕ × ℕ)) → newest 0 line == 0 ≡ is_empty line
-newest-empty [] = refl
-newest-empty (asker ∷ rest) = let there = newest-some 0 (asker ∷ rest) refl in grind (arith, nat_tests)
+newest-empty line = grind (arith, nat_tests, newest-some 0 line)
+
+-- and the newest of those that aren't cut off is the newest of all
+pub newest-uncut : (line cut uncut : List (ℕ × ℕ)) → line ≡ cut ++ uncut → (is_empty uncut ≡ true → cut ≡ []) → newest 0 line ≡ newest 0 uncut
+newest-uncut line cut uncut parts some = grind (arith, parts, some, newest-append 0 cut uncut, newest-any (newest 0 cut) 0 uncut)
+
+-- nobody is the oldest exactly where nobody stands in the line
+pub oldest-empty : (line : List (ℕ × ℕ)) → oldest line == 0 ≡ is_empty line
+oldest-empty line = grind (arith, nat_tests)
 
 -- the newest stands in the line
 pub newest-in : (older place : ℕ) (line : List (ℕ × ℕ)) → is_empty line ≡ false → newest older line ≡ place + 1 → 0 < times place line
 newest-in older place [] some is = absurd (cc)
-newest-in older place (asker ∷ []) some is =
-    let same : asker.0 ≡ place = omega (arith, is) in
-    omega (arith, ap one_if (ap (λ n. n == place) same ∙ number_same place))
-newest-in older place (asker ∷ (next ∷ rest)) some is = omega (arith, newest-in (asker.0 + 1) place (next ∷ rest) refl is)
+newest-in older place (asker ∷ rest) some is = grind (arith, nat_tests, is, newest-in (asker.0 + 1) place rest)
 
 pub empty-nil : (line : List (ℕ × ℕ)) → is_empty line ≡ true → line ≡ []
-empty-nil [] none = refl
-empty-nil (asker ∷ rest) none = absurd (cc)
+empty-nil line none = grind (arith, none)
 
 -- the newest of a front is there exactly where somebody stands in it
 pub front-none : (front : List (ℕ × ℕ)) (top : ℕ) → top ≡ newest 0 front → top == 0 ≡ true → front ≡ []
@@ -168,8 +152,7 @@ ahead-frame old new (asker ∷ (next ∷ rest)) same h =
 -- the first of a line is followed, where its newer link is that of the next
 pub ahead-cons : (words : ℕ → LineWord) (asker : ℕ × ℕ) (rest : List (ℕ × ℕ))
     → (words asker.0).newer ≡ oldest rest → IsAhead words rest → IsAhead words (asker ∷ rest)
-ahead-cons words asker [] is h = tt
-ahead-cons words asker (next ∷ rest) is h = (is, h)
+ahead-cons words asker rest is h = grind (arith, is, h)
 
 -- Fronts
 

@@ -1,30 +1,22 @@
 -- A cancel that set the flag looks for itself from the tail that it saw: each step keeps how words, places and the abstract state stand
 -- together.
-use Rattle.std.proofs.Common.{◌≡◌, ℕ, ◌+◌, pred, true, false, List, [], ◌∷◌, ◌++◌, ◌==◌, refl, sym, ap, subst, ◌∙◌, arith, inl, inr, append-nil, append_assoc}
+use Rattle.std.proofs.Common.{◌≡◌, ℕ, ◌+◌, pred, false, List, [], ◌∷◌, ◌++◌, ◌==◌, refl, sym, ap, subst, ◌∙◌, arith, inl, inr, append-nil, append_assoc}
 use Rattle.std.proofs.lemmas.Bool.{cases_Bool}
-use Rattle.std.proofs.lemmas.Bool.Decides.{nat_tests}
 use Rattle.saa_core_spec.proofs.Counts.{same_number}
 use Rattle.saa_core_words.specs.declared.word.Word.{Word}
 use Rattle.saa_core_words.specs.declared.line_word.LineWord.{LineWord}
 use Rattle.saa_core_words.specs.Words.{line_number, line_word_of}
-use Rattle.saa_word_steps.specs.declared.place.Stage.{Stage}
 use Rattle.saa_word_steps.specs.declared.place.Stage.TheVariants.{Forward, LookLoad, LookStore, Unlink, DropTail}
 use Rattle.saa_word_steps.specs.AbstractState.{is_empty, is_in}
-use Rattle.saa_word_steps.specs.Steps.{IsRanged}
-use Rattle.saa_word_proofs.specs.Refinement.{newest, oldest, is_holder, gives_up, IsLocallyTrue, IsOwn, IsShowing, Work, IsHolding, IsAdded, IsBack, IsPassed, IsFound, Invariant}
-use Rattle.saa_word_proofs.specs.Rows.{IsBehind, line_of, updated}
-use Rattle.saa_word_proofs.proofs.RefinementLemmas.Lists.{in-append, split-last, newest-last, empty-nil, behind-rest, front-none, front-some}
+use Rattle.saa_word_proofs.specs.Refinement.{newest, is_holder, Work, IsAdded, IsBack, IsPassed, IsFound}
+use Rattle.saa_word_proofs.specs.Rows.{IsBehind, line_of}
+use Rattle.saa_word_proofs.proofs.RefinementLemmas.Lists.{in-append, oldest-empty, split-last, newest-last, empty-nil, behind-rest, front-none, front-some}
 use Rattle.saa_word_proofs.proofs.RefinementLemmas.Frames.{newest-stands, work-front}
 use Rattle.saa_word_proofs.proofs.RefinementLemmas.Rows.{IsOwnStep, at-stage, moved, loaded}
 use Rattle.saa_word_proofs.proofs.RefinementLemmas.Linking.{in-line, relinked, linked-all}
 use Rattle.saa_word_proofs.proofs.RefinementLemmas.Flagging.{returning-leaving}
-use Rattle.saa_word_proofs.proofs.RefinementLemmas.Storing.{IsStored, stored}
+use Rattle.saa_word_proofs.proofs.RefinementLemmas.Storing.{stored}
 use Rattle.saa_word_proofs.proofs.RefinementLemmas.Outcomes.{silent}
-
--- nobody is the oldest exactly where nobody stands in the line
-oldest-empty : (line : List (ℕ × ℕ)) → oldest line == 0 ≡ is_empty line
-oldest-empty [] = refl
-oldest-empty (asker ∷ rest) = grind (arith, nat_tests)
 
 -- the holder finds itself as the last of the front, and its line word names the place before it
 found : (words : ℕ → LineWord) (me held : ℕ) (line : List (ℕ × ℕ)) (seen : Word) (current newer : ℕ) (work : Work held line seen)
@@ -53,15 +45,6 @@ step-LookLoad seen current newer previous needs lawful wide places row standing 
     let seat = in-line places standing state (pred current) s.seats (work-front state.count state.line seen work (pred current) there.0) in
     let linked : IsBehind (line_of row) 0 state.line = linked-all (line_of row) state.line s.cut s.uncut s.line knows.1 in
     let line : LineWord = line_word_of (row current) in
-    let on : (next : Stage) → IsRanged needs next → IsLocallyTrue needs (standing me).registration (standing me).back next
-    → (gives_up (standing me).back next ≡ true → is_in me state.line ≡ false)
-    → IsOwn (line_of row me) next → IsShowing (s.owed me) (s.answer_value me) next → is_holder next ≡ true
-    → IsHolding needs (line_of row) me state.count state.line s.cut next
-    → Invariant needs places (updated row current (row current)) (updated standing me (record (standing me) { stage = next })) state =
-    λ next ranged alone apart own showing holder holding.
-    loaded needs places row (updated standing me (record (standing me) { stage = next })) state current
-    (moved needs places row standing state me s (record (standing me) { stage = next }) (λ out. absurd (omega (arith, out, here))) refl ranged alone apart own showing
-    (holder ∙ ap is_holder (sym at)) (λ is. holding)) in
     silent refl (omega (arith, there.1, seat.0)) (elim (cases_Bool (current == me + 1)) [
       | inl own ↦
           let mine : current ≡ me + 1 = same_number current (me + 1) own in
@@ -70,29 +53,32 @@ step-LookLoad seen current newer previous needs lawful wide places row standing 
           (found (line_of row) me state.count state.line seen current newer work knows.2 linked mine) in
           elim (cases_Bool (newer == 0)) [
             | inl last ↦
-                let none : work.behind ≡ [] =
-                empty-nil work.behind (sym (oldest-empty work.behind) ∙ ap (λ (n : ℕ). n == 0) (sym knows.2.2) ∙ last) in
-                let tail : seen.tail ≡ current =
-                work.tail ∙ ap (λ (l : List (ℕ × ℕ)). newest 0 (work.front ++ l)) none ∙ ap (newest 0) (append-nil work.front) ∙ sym knows.2.0 in
+                let none = empty-nil work.behind (sym (oldest-empty work.behind) ∙ ap (λ (n : ℕ). n == 0) (sym knows.2.2) ∙ last) in
+                let tail = work.tail ∙ ap (λ (l : List (ℕ × ℕ)). newest 0 (work.front ++ l)) none ∙ ap (newest 0) (append-nil work.front) ∙ sym knows.2.0 in
                 rw (own, last)
-                (on (DropTail seen line.older) known.ranged (known.alone, omega (arith, tail, mine, here, room)) (λ gives. absurd (cc)) tt known.showing refl
-                (work, knows.1, is, none))
+                (loaded needs places row _ state current
+                (moved needs places row standing state me s (record (standing me) { stage = DropTail seen line.older }) (λ out. absurd (omega (arith, out, here))) refl
+                known.ranged (known.alone, omega (arith, tail, mine, here, room)) (λ gives. absurd (cc)) tt known.showing (ap is_holder (sym at))
+                (λ it. (work, knows.1, is, none))))
             | inr more ↦
                 let some : is_empty work.behind ≡ false = sym (oldest-empty work.behind) ∙ ap (λ (n : ℕ). n == 0) (sym knows.2.2) ∙ more in
-                rw (own, more) (on (Unlink seen newer previous line.older) known.ranged known.alone (λ gives. absurd (cc)) tt known.showing refl
-                (work, knows.1, is, (knows.2.2, some, knows.2.3), knows.4 some))
+                rw (own, more) (loaded needs places row _ state current
+                (moved needs places row standing state me s (record (standing me) { stage = Unlink seen newer previous line.older }) (λ out. absurd (omega (arith, out, here))) refl
+                known.ranged known.alone (λ gives. absurd (cc)) tt known.showing (ap is_holder (sym at))
+                (λ it. (work, knows.1, is, (knows.2.2, some, knows.2.3), knows.4 some))))
           ]
       | inr other ↦
-          rw other (on (LookStore seen current newer line) known.ranged known.alone (λ gives. absurd (cc)) tt known.showing refl
-          (work, knows.1, knows.2, knows.3, ap (λ (n : ℕ). line_word_of (row n)) there.1, other))
+          rw other (loaded needs places row _ state current
+          (moved needs places row standing state me s (record (standing me) { stage = LookStore seen current newer line }) (λ out. absurd (omega (arith, out, here))) refl
+          known.ranged known.alone (λ gives. absurd (cc)) tt known.showing (ap is_holder (sym at))
+          (λ it. (work, knows.1, knows.2, knows.3, ap (λ (n : ℕ). line_word_of (row n)) there.1, other))))
     ])
 
 -- a place that is in no part of a line is in no line
 passed-all : (me held : ℕ) (line : List (ℕ × ℕ)) (seen : Word) (work : Work held line seen) → work.front ≡ [] → IsPassed me work.behind work.joined
     → is_in me line ≡ false
 passed-all me held line seen work none passed =
-    ap (is_in me) (work.parts ∙ ap (λ (l : List (ℕ × ℕ)). l ++ (work.behind ++ work.joined)) none)
-    ∙ in-append me work.behind work.joined ∙ rw passed.0 passed.1
+    grind (arith, work.parts, none, passed.0, passed.1, in-append me work.behind work.joined)
 
 -- It is written with the link to the one behind it; the look goes on to the one before, or the whole line is passed
 pub step-LookStore : (seen : Word) (current newer : ℕ) (line : LineWord) → IsOwnStep (LookStore seen current newer line)
@@ -100,29 +86,22 @@ step-LookStore seen current newer line needs lawful wide places row standing sta
     let known = at-stage needs places row standing state me s _ at in
     let knows = known.holding (known.mine refl) in
     let flag = known.mine refl in
-    let store : IsStored places row state s.cut s.uncut seen current newer line knows.0 =
-    stored needs places row standing state s seen current newer line knows.0 room knows.1 knows.2 knows.4 in
+    let store = stored needs places row standing state s seen current newer line knows.0 room knows.1 knows.2 knows.4 in
     let work : Work state.count state.line seen = store.walk.work in
     let passed : IsPassed me work.behind work.joined = store.walk.passed me knows.5 knows.3 in
     let number : ℕ = line_number (record line { newer = newer }) in
-    let on : (next : Stage) → IsRanged needs next → IsLocallyTrue needs (standing me).registration (standing me).back next
-    → (gives_up (standing me).back next ≡ true → is_in me state.line ≡ false)
-    → IsOwn (line_of (updated row (pred current + 1) number) me) next → IsShowing (s.owed me) (s.answer_value me) next → is_holder next ≡ true
-    → IsHolding needs (line_of (updated row (pred current + 1) number)) me state.count state.line s.cut next
-    → Invariant needs places (updated row current number) (updated standing me (record (standing me) { stage = next })) state =
-    λ next ranged alone apart own showing holder holding.
-    relinked needs places row standing state me s next current (pred current) number s.cut s.uncut store.link (λ out. absurd (omega (arith, out, here))) flag store.waits
-    store.linked ranged alone apart own showing holder holding in
     silent refl (omega (arith, store.link, store.inside)) (elim (cases_Bool (line.older == 0)) [
       | inl none ↦
           let nobody : work.front ≡ [] = front-none work.front _ store.walk.before none in
           rw none
-          (on (Forward seen current seen.count) (known.ranged, known.ranged) (returning-leaving (standing me).registration (standing me).back known.alone)
-          (λ gives. passed-all me state.count state.line seen work nobody passed) tt known.showing refl
+          (relinked needs places row standing state me s (Forward seen current seen.count) current (pred current) number s.cut s.uncut store.link
+          (λ out. absurd (omega (arith, out, here))) flag store.waits store.linked (known.ranged, known.ranged)
+          (returning-leaving (standing me).registration (standing me).back known.alone) (λ gives. passed-all me state.count state.line seen work nobody passed) tt known.showing refl
           (work, knows.1, subst (λ l. IsAdded needs seen l seen.count) (sym nobody) (tt, omega arith), store.walk.behind))
       | inr some ↦
           let somebody : is_empty work.front ≡ false = front-some work.front _ store.walk.before some in
           rw some
-          (on (LookLoad seen line.older current (record line { newer = newer })) known.ranged known.alone (λ gives. absurd (cc)) tt known.showing refl
+          (relinked needs places row standing state me s (LookLoad seen line.older current (record line { newer = newer })) current (pred current) number s.cut s.uncut store.link
+          (λ out. absurd (omega (arith, out, here))) flag store.waits store.linked known.ranged known.alone (λ gives. absurd (cc)) tt known.showing refl
           (work, knows.1, (store.walk.before, somebody, store.walk.behind.0, store.walk.behind.2), passed, (λ there. sym store.written)))
     ])

@@ -1,11 +1,10 @@
 -- What a call has named where it goes on, by each kind of step: its events name its answer once it is done.
-use Rattle.std.proofs.Common.{◌≡◌, ◌≢◌, ℕ, Bool, true, false, not, ◌&&◌, ◌||◌, List, [], ◌∷◌, ◌++◌, ◌==◌, Option, Some, None, if◌then◌else◌, refl, sym, ap, subst, ◌∙◌, inl, inr, append-nil}
-use Rattle.std.proofs.lemmas.Bool.{cases_Bool}
+use Rattle.std.proofs.Common.{◌≡◌, ◌≢◌, ℕ, Bool, true, false, not, ◌||◌, List, [], ◌∷◌, ◌++◌, ◌==◌, Option, Some, None, if◌then◌else◌, refl, sym, ap, subst, ◌∙◌, inl, inr, arith, append-nil}
 use Rattle.saa_core_spec.specs.Values.{granted_value}
 use Rattle.saa_core_spec.proofs.Counts.{number_same, same_number}
 use Rattle.saa_core_words.specs.declared.word.Word.{Word}
 use Rattle.saa_word_steps.specs.declared.call.WordCall.{WordCall}
-use Rattle.saa_word_steps.specs.declared.call.WordCall.TheVariants.{Try, Register, Release, Available, Shut, IsShut, TryLock, TryShare, RegisterMode, ReleaseLock, ReleaseShare, Downgrade, PoisonLock, IsFree, IsLocked, IsShared, IsPoisoned, TryPoll, Poll, Cancel}
+use Rattle.saa_word_steps.specs.declared.call.WordCall.TheVariants.{Cancel}
 use Rattle.saa_word_steps.specs.declared.call.Answer.{Answer}
 use Rattle.saa_word_steps.specs.declared.call.Answer.TheVariants.{Bool as Says, Unit as Ended}
 use Rattle.saa_word_steps.specs.declared.place.Place.{Place}
@@ -32,86 +31,52 @@ use Rattle.saa_word_steps.specs.Readings.{refusing_answer, tried_answer}
 use Rattle.saa_word_proofs.specs.Refinement.{waits_behind}
 use Rattle.saa_word_proofs.specs.StepRefinement.{gave, gave_not, decided_events, given_events, left_events, taken_events, poisoning_events}
 use Rattle.saa_word_proofs.specs.Calls.{answer_named, ask_named, release_named, read_named, poll_named, poison_named, asked_by, is_taken_up, IsDropped, IsCancelled, IsAnswered}
+use Rattle.saa_word_proofs.proofs.RefinementLemmas.Rows.{either}
 use Rattle.saa_word_proofs.specs.CallStages.{IsGivingUp, IsLeavingLine, IsReleasing, IsTaking, IsUnder, IsUnderNext, IsWorking, given_by, is_poisoning, read_by, taken_by}
+
+-- what is so of both ways that a call goes on, with the events of each, is so of the one that it takes
+goes-by : (P : List Event → Next → Type 0) (test : Bool) (ones others : List Event) (one other : Next) → (test ≡ true → P ones one) → (test ≡ false → P others other)
+    → P (if test then ones else others) (if test then one else other)
+goes-by P true ones others one other o t = o refl
+goes-by P false ones others one other o t = t refl
 
 -- Events that name an answer
 
--- an event of a call that isn't a cancel names its answer
-pub answered : (needs : Needs) (call : WordCall) (registered : Registration) (event : Event) (answer : Answer) → call ≢ Cancel
-    → answer_named needs call event ≡ Some answer → IsAnswered needs call registered (event ∷ []) answer
-answered needs Cancel registered event answer other names = absurd (other refl)
-answered needs call registered event answer other names = (event, refl, names)
-
--- what an event names for who may ask
-abbrev asked_names : Needs → Option Ask → Event → Option Answer
-asked_names needs None event = None
-asked_names needs (Some ask) event = ask_named needs ask event
+-- an event that names an answer of a call is that call's; a cancel's events name none
+answered : (needs : Needs) (call : WordCall) (registered : Registration) (event : Event) (answer : Answer) → answer_named needs call event ≡ Some answer
+    → IsAnswered needs call registered (event ∷ []) answer
+answered needs Cancel registered event answer names = absurd (cc)
+answered needs call registered event answer names = (event, refl, names)
 
 -- an event names the answer of an ask
 pub ask-answered : (needs : Needs) (call : WordCall) (registered : Registration) (ask : Ask) (event : Event) (answer : Answer) → asked_by call ≡ Some ask
     → ask_named needs ask event ≡ Some answer → IsAnswered needs call registered (event ∷ []) answer
-ask-answered needs (Try count) registered ask event answer is names = (event, refl, ap (λ (a : Option Ask). asked_names needs a event) is ∙ names)
-ask-answered needs (Register count) registered ask event answer is names = (event, refl, ap (λ (a : Option Ask). asked_names needs a event) is ∙ names)
-ask-answered needs TryLock registered ask event answer is names = (event, refl, ap (λ (a : Option Ask). asked_names needs a event) is ∙ names)
-ask-answered needs TryShare registered ask event answer is names = (event, refl, ap (λ (a : Option Ask). asked_names needs a event) is ∙ names)
-ask-answered needs (RegisterMode mode) registered ask event answer is names = (event, refl, ap (λ (a : Option Ask). asked_names needs a event) is ∙ names)
-ask-answered needs call registered ask event answer is names = absurd (cc)
-
--- what an event names for who may give something back
-abbrev given_names : Option ReleaseAmount → Event → Option Answer
-given_names None event = None
-given_names (Some what) event = release_named what event
+ask-answered needs call registered ask event answer is names = answered needs call registered event answer (grind (arith, is, names))
 
 -- an event names the answer of a release, which isn't a cancel
 release-named : (needs : Needs) (call : WordCall) (what : ReleaseAmount) (event : Event) → given_by call ≡ Some what
     → (answer_named needs call event ≡ release_named what event) × (call ≢ Cancel)
-release-named needs (Release count) what event is = (ap (λ (g : Option ReleaseAmount). given_names g event) is, λ cancel. absurd (cc))
-release-named needs ReleaseLock what event is = (ap (λ (g : Option ReleaseAmount). given_names g event) is, λ cancel. absurd (cc))
-release-named needs ReleaseShare what event is = (ap (λ (g : Option ReleaseAmount). given_names g event) is, λ cancel. absurd (cc))
-release-named needs Downgrade what event is = (ap (λ (g : Option ReleaseAmount). given_names g event) is, λ cancel. absurd (cc))
-release-named needs call what event is = absurd (cc)
+release-named needs call what event is = (grind (arith, is), λ cancel. grind (arith, is, cancel))
 
 -- what is given back is told, and so is what isn't held
-gave-says : (what : ReleaseAmount) → release_named what (gave what) ≡ Some (Says true)
-gave-says (Requested request) = rw (number_same request) refl
-gave-says AllButAShare = refl
-
-nothing-says : (what : ReleaseAmount) → release_named what (gave_not what) ≡ Some (Says false)
-nothing-says (Requested request) = rw (number_same request) refl
-nothing-says AllButAShare = refl
-
--- what an event names for who may read
-abbrev read_names : Needs → Option Reading → Event → Option Answer
-read_names needs None event = None
-read_names needs (Some reading) event = read_named needs reading event
+says : (what : ReleaseAmount) → (release_named what (gave what) ≡ Some (Says true)) × (release_named what (gave_not what) ≡ Some (Says false))
+says (Requested request) = rw (number_same request) (refl, refl)
+says AllButAShare = (refl, refl)
 
 -- an event names the answer of a reading call
 pub read-answered : (needs : Needs) (call : WordCall) (registered : Registration) (reading : Reading) (event : Event) (answer : Answer) → read_by call ≡ Some reading
     → read_named needs reading event ≡ Some answer → IsAnswered needs call registered (event ∷ []) answer
-read-answered needs Available registered reading event answer is names = (event, refl, ap (λ (r : Option Reading). read_names needs r event) is ∙ names)
-read-answered needs IsFree registered reading event answer is names = (event, refl, ap (λ (r : Option Reading). read_names needs r event) is ∙ names)
-read-answered needs IsLocked registered reading event answer is names = (event, refl, ap (λ (r : Option Reading). read_names needs r event) is ∙ names)
-read-answered needs IsShared registered reading event answer is names = (event, refl, ap (λ (r : Option Reading). read_names needs r event) is ∙ names)
-read-answered needs IsPoisoned registered reading event answer is names = (event, refl, ap (λ (r : Option Reading). read_names needs r event) is ∙ names)
-read-answered needs IsShut registered reading event answer is names = (event, refl, ap (λ (r : Option Reading). read_names needs r event) is ∙ names)
-read-answered needs call registered reading event answer is names = absurd (cc)
+read-answered needs call registered reading event answer is names = answered needs call registered event answer (grind (arith, is, names))
 
 -- whether a poll may be told that it isn't its turn yet
 abbrev is_try : PollMode → Bool
 is_try Tries = true
 is_try _ = false
 
--- what an event names for who may take its answer
-abbrev taken_names : Option PollMode → Event → Option Answer
-taken_names None event = None
-taken_names (Some taking) event = poll_named (is_try taking) event
-
 -- an event names the answer of a poll
 poll-answered : (needs : Needs) (call : WordCall) (registered : Registration) (taking : PollMode) (event : Event) (answer : Answer) → taken_by call ≡ Some taking
     → poll_named (is_try taking) event ≡ Some answer → IsAnswered needs call registered (event ∷ []) answer
-poll-answered needs TryPoll registered taking event answer is names = (event, refl, ap (λ (t : Option PollMode). taken_names t event) is ∙ names)
-poll-answered needs Poll registered taking event answer is names = (event, refl, ap (λ (t : Option PollMode). taken_names t event) is ∙ names)
-poll-answered needs call registered taking event answer is names = absurd (cc)
+poll-answered needs call registered taking event answer is names = answered needs call registered event answer (grind (arith, is, names))
 
 -- a cancel is answered that it ended
 pub cancel-answered : (needs : Needs) (call : WordCall) (registered : Registration) (events : List Event) → call ≡ Cancel → IsCancelled needs registered events
@@ -130,50 +95,33 @@ unnamed needs call registered back stage events next under =
 pub granted-under : (needs : Needs) (call : WordCall) (registered : Registration) (stage : Stage) (place : Place) (ask : Ask) → asked_by call ≡ Some ask
     → IsUnderNext needs call registered place.back stage (Acquired ask.request ∷ []) (granted needs place ask)
 granted-under needs call registered stage place ask is =
-    elim (cases_Bool ask.joins) [
-      | inl joins ↦ rw joins (ask-answered needs call registered ask (Acquired ask.request) (Says true) is (rw (number_same ask.request, joins) refl))
-      | inr tries ↦ rw tries (ask-answered needs call registered ask (Acquired ask.request) (tried_answer needs true) is (rw (number_same ask.request, tries) refl))
-    ]
+    either (IsUnderNext needs call registered place.back stage (Acquired ask.request ∷ [])) ask.joins _ _
+    (λ joins. ask-answered needs call registered ask (Acquired ask.request) (Says true) is (rw (number_same ask.request, joins) refl))
+    (λ tries. ask-answered needs call registered ask (Acquired ask.request) (tried_answer needs true) is (rw (number_same ask.request, tries) refl))
 
 -- who finds a poisoned lock, or a shut semaphore, has named that
 poisoned-under : (needs : Needs) (call : WordCall) (registered : Registration) (stage : Stage) (place : Place) (ask : Ask) → asked_by call ≡ Some ask
     → IsUnderNext needs call registered place.back stage (AskedPoisoned ∷ []) (found_poisoned needs place ask)
 poisoned-under needs call registered stage place ask is =
-    elim (cases_Bool ask.joins) [
-      | inl joins ↦ rw joins (ask-answered needs call registered ask AskedPoisoned (Says true) is (rw joins refl))
-      | inr tries ↦ rw tries (ask-answered needs call registered ask AskedPoisoned (refusing_answer needs) is (rw tries refl))
-    ]
-
--- an ask for so much
-abbrev ask_of : ℕ → Bool → Ask
-ask_of request joins = record { request = request; joins = joins }
+    either (IsUnderNext needs call registered place.back stage (AskedPoisoned ∷ [])) ask.joins _ _
+    (λ joins. ask-answered needs call registered ask AskedPoisoned (Says true) is (rw joins refl))
+    (λ tries. ask-answered needs call registered ask AskedPoisoned (refusing_answer needs) is (rw tries refl))
 
 -- an ask that joins is one of these
 joining : (call : WordCall) (ask : Ask) → asked_by call ≡ Some ask → ask.joins ≡ true → asked_by call ≡ Some (record { request = ask.request; joins = true })
-joining call ask is joins = is ∙ ap (λ (b : Bool). Some (ask_of ask.request b)) joins
+joining call ask is joins = is ∙ ap (λ (b : Bool). Some (record { request = ask.request; joins = b })) joins
 
 -- an ask that is decided
 pub decided-under : (needs : Needs) (call : WordCall) (registered : Registration) (stage : Stage) (place : Place) (ask : Ask) (seen : Word)
     → asked_by call ≡ Some ask
     → IsUnderNext needs call registered place.back stage (decided_events needs ask.request ask.joins seen) (decided needs place ask seen)
 decided-under needs call registered stage place ask seen is =
-    elim (cases_Bool seen.is_poisoned) [
-      | inl poisoned ↦ rw poisoned (poisoned-under needs call registered stage place ask is)
-      | inr sound ↦
-          elim (cases_Bool (waits_behind needs seen ask.request)) [
-            | inl waits ↦
-                elim (cases_Bool ask.joins) [
-                  | inl joins ↦ rw (sound, waits, joins) (joining call ask is joins, refl)
-                  | inr tries ↦ rw (sound, waits, tries)
-                      (ask-answered needs call registered ask (Refused ask.request) (tried_answer needs false) is (rw (number_same ask.request, tries) refl))
-                ]
-            | inr free ↦
-                elim (cases_Bool (needs.takes ask.request == 0)) [
-                  | inl nothing ↦ rw (sound, free, nothing) (granted-under needs call registered stage place ask is)
-                  | inr takes ↦ rw (sound, free, takes) (is, refl)
-                ]
-          ]
-    ]
+    let goes = goes-by (IsUnderNext needs call registered place.back stage) in
+    goes seen.is_poisoned _ _ _ _ (λ poisoned. poisoned-under needs call registered stage place ask is)
+    (λ sound. goes (waits_behind needs seen ask.request) _ _ _ _
+    (λ waits. goes ask.joins _ _ _ _ (λ joins. (joining call ask is joins, refl))
+    (λ tries. ask-answered needs call registered ask (Refused ask.request) (tried_answer needs false) is (rw (number_same ask.request, tries) refl)))
+    (λ free. goes (needs.takes ask.request == 0) _ _ _ _ (λ nothing. granted-under needs call registered stage place ask is) (λ takes. (is, refl))))
 
 -- A call that is done with the line
 
@@ -182,7 +130,7 @@ pub finished-under : (needs : Needs) (call : WordCall) (registered : Registratio
     → IsWorking needs call registered back events → IsUnderNext needs call registered was stage events (finished place back)
 finished-under needs call registered was stage events place Tells working =
     subst (λ (l : List Event). IsAnswered needs call registered l (Says true)) (sym working.1)
-    (answered needs call registered working.0 (Says true) working.3 working.2)
+    (answered needs call registered working.0 (Says true) working.2)
 finished-under needs call registered was stage events place EndsCall working = cancel-answered needs call registered events working.0 working.1
 finished-under needs call registered was stage events place (Takes request) working = working
 
@@ -209,7 +157,7 @@ gave-working needs call registered Tells what events releasing =
     let names = release-named needs call what (gave what) releasing.0 in (
       gave what,
       ap (λ (l : List Event). l ++ gave what ∷ []) releasing.1,
-      names.0 ∙ gave-says what,
+      names.0 ∙ (says what).0,
       names.1,
     )
 gave-working needs call registered EndsCall what events releasing =
@@ -222,7 +170,7 @@ gave-nothing-under : (needs : Needs) (call : WordCall) (registered : Registratio
     → IsUnderNext needs call registered was stage (events ++ gave_not what ∷ []) (gave_nothing place back)
 gave-nothing-under needs call registered was stage place Tells what events releasing =
     let names = release-named needs call what (gave_not what) releasing.0 in
-    rw releasing.1 (answered needs call registered (gave_not what) (Says false) names.1 (names.0 ∙ nothing-says what))
+    rw releasing.1 (answered needs call registered (gave_not what) (Says false) (names.0 ∙ (says what).1))
 gave-nothing-under needs call registered was stage place EndsCall what events releasing =
     cancel-answered needs call registered (events ++ gave_not what ∷ []) releasing.0
     (gave-cancelled needs registered what events (gave_not what ∷ []) releasing.1 (λ request is. inr (ap (λ (g : ReleaseAmount). gave_not g ∷ []) is)))
@@ -238,24 +186,14 @@ left-under needs call registered stage place what seen None events releasing =
 left-under needs call registered stage place what seen (Some left) events releasing =
     subst (λ (l : List Event). IsReleasing needs call registered place.back what l) (sym (append-nil events)) releasing
 
--- a release that is decided, of a main word that is poisoned or not
-tested-under : (needs : Needs) (call : WordCall) (registered : Registration) (stage : Stage) (place : Place)
-    (what : ReleaseAmount) (seen : Word) (events : List Event) (poisoned : Bool)
-    → IsReleasing needs call registered place.back what events
-    → IsUnderNext needs call registered place.back stage
-    (events ++ (if poisoned then gave_not what ∷ [] else left_events what (left_from needs seen.count what)))
-    (if poisoned then gave_nothing place place.back else given_to place what seen (left_from needs seen.count what))
-tested-under needs call registered stage place what seen events true releasing =
-    gave-nothing-under needs call registered place.back stage place place.back what events releasing
-tested-under needs call registered stage place what seen events false releasing =
-    left-under needs call registered stage place what seen (left_from needs seen.count what) events releasing
-
 -- a release that is decided
 pub given-under : (needs : Needs) (call : WordCall) (registered : Registration) (stage : Stage) (place : Place) (what : ReleaseAmount) (seen : Word) (events : List Event)
     → IsReleasing needs call registered place.back what events
     → IsUnderNext needs call registered place.back stage (events ++ given_events needs what seen) (given needs place what seen)
 given-under needs call registered stage place what seen events releasing =
-    tested-under needs call registered stage place what seen events (forgets needs seen.is_poisoned) releasing
+    goes-by (λ (last : List Event). IsUnderNext needs call registered place.back stage (events ++ last)) (forgets needs seen.is_poisoned) _ _ _ _
+    (λ poisoned. gave-nothing-under needs call registered place.back stage place place.back what events releasing)
+    (λ sound. left-under needs call registered stage place what seen (left_from needs seen.count what) events releasing)
 
 -- Answers that are taken
 
@@ -264,27 +202,17 @@ dropped-under : (needs : Needs) (call : WordCall) (registered : Registration) (w
     → call ≡ Cancel → registered ≡ Queued request
     → IsUnderNext needs call registered was stage (AnswerTaken value ∷ []) (dropped needs place request value)
 dropped-under needs call registered was stage place request value is slot =
-    elim (cases_Bool (is_taken_up needs request value)) [
-      | inl up ↦ rw up (is, taken-up needs registered request value slot up)
-      | inr free ↦ rw free (cancel-answered needs call registered (AnswerTaken value ∷ []) is
-          (subst (λ (r : Registration). IsCancelled needs r (AnswerTaken value ∷ [])) (sym slot) (inr (inl (value, refl, free)))))
-    ]
+    either (IsUnderNext needs call registered was stage (AnswerTaken value ∷ [])) (is_taken_up needs request value) _ _
+    (λ up. (is, taken-up needs registered request value slot up))
+    (λ free. cancel-answered needs call registered (AnswerTaken value ∷ []) is
+    (subst (λ (r : Registration). IsCancelled needs r (AnswerTaken value ∷ [])) (sym slot) (inr (inl (value, refl, free)))))
   where
-    -- two tests that both are as they should be
-    both-so : (one other : Bool) → (one && not other) ≡ true → (one ≡ true) × (other ≡ false)
-    both-so true false both = (refl, refl)
-    both-so true true both = absurd (cc)
-    both-so false other both = absurd (cc)
-
     -- such a cancel has named that it took its answer
     taken-up : (needs : Needs) (registered : Registration) (request value : ℕ) → registered ≡ Queued request → is_taken_up needs request value ≡ true
         → IsGivingUp needs registered (Requested request) (AnswerTaken value ∷ [])
     taken-up needs registered request value slot up =
-        let both = both-so (value == granted_value) (needs.takes request == 0) up in
-        let some : needs.takes request ≢ 0 = λ none.
-        (let wrong : true ≡ false = sym (ap (λ (n : ℕ). n == 0) none) ∙ both.1 in absurd (cc)) in
         subst (λ (r : Registration). IsGivingUp needs r (Requested request) (AnswerTaken value ∷ [])) (sym slot)
-        (refl, some, ap (λ (n : ℕ). AnswerTaken n ∷ []) (same_number value granted_value both.0))
+        (refl, grind (arith, up), ap (λ (n : ℕ). AnswerTaken n ∷ []) (same_number value granted_value (grind (arith, up))))
 
 -- an answer that is taken, and none that is there
 pub taken-under : (needs : Needs) (call : WordCall) (registered : Registration) (place : Place) (taking : PollMode) (answer : Option ℕ) (events : List Event)
@@ -318,44 +246,26 @@ pub flagging-under : (needs : Needs) (call : WordCall) (registered : Registratio
     → IsLeavingLine call registered place.back events → IsUnder needs call registered place.back stage events
     → IsUnderNext needs call registered place.back stage events (flagging place seen)
 flagging-under needs call registered stage place seen events leaving stays =
-    elim (cases_Bool seen.is_flagged) [
-      | inl flagged ↦ rw flagged stays
-      | inr clear ↦
-          elim (cases_Bool (seen.tail == 0)) [
-            | inl nobody ↦ rw (clear, nobody)
-                (finished-under needs call registered place.back stage events place place.back (left-working needs call registered place.back events leaving))
-            | inr some ↦ rw (clear, some) leaving
-          ]
-    ]
+    let goes = either (IsUnderNext needs call registered place.back stage events) in
+    goes seen.is_flagged _ _ (λ flagged. stays) (λ clear. goes (seen.tail == 0) _ _
+    (λ nobody. finished-under needs call registered place.back stage events place place.back (left-working needs call registered place.back events leaving))
+    (λ some. leaving))
 
 -- Poison
 
 -- an event names the answer of poison and of a shut, which aren't a cancel
 poison-names : (needs : Needs) (call : WordCall) (event : Event) → is_poisoning needs.is_lock call ≡ true
     → (answer_named needs call event ≡ poison_named event) × (call ≢ Cancel)
-poison-names needs PoisonLock event is = (refl, λ cancel. absurd (cc))
-poison-names needs Shut event is = (refl, λ cancel. absurd (cc))
-poison-names needs call event is = absurd (cc)
-
-poison-answered : (needs : Needs) (call : WordCall) (registered : Registration) (event : Event) (answer : Answer) → is_poisoning needs.is_lock call ≡ true
-    → poison_named event ≡ Some answer → IsAnswered needs call registered (event ∷ []) answer
-poison-answered needs PoisonLock registered event answer is names = (event, refl, names)
-poison-answered needs Shut registered event answer is names = (event, refl, names)
-poison-answered needs call registered event answer is names = absurd (cc)
+poison-names needs call event is = (grind (arith, is), λ cancel. grind (arith, is, cancel))
 
 -- poison that is decided; where it waits, it stays where it was
 pub poisoning-under : (needs : Needs) (call : WordCall) (registered : Registration) (stage : Stage) (place : Place) (seen : Word)
     → is_poisoning needs.is_lock call ≡ true → place.back ≡ Tells → IsUnder needs call registered place.back stage []
     → IsUnderNext needs call registered place.back stage (poisoning_events needs seen) (poisoning needs place seen)
 poisoning-under needs call registered stage place seen is tells stays =
-    elim (cases_Bool (seen.is_poisoned || not (may_refuse needs seen.count))) [
-      | inl refused ↦ rw refused (poison-answered needs call registered NotPoisoned (Says false) is refl)
-      | inr sound ↦
-          elim (cases_Bool seen.is_flagged) [
-            | inl flagged ↦ rw (sound, flagged) stays
-            | inr clear ↦ rw (sound, clear) (is, tells, refl)
-          ]
-    ]
+    goes-by (IsUnderNext needs call registered place.back stage) (seen.is_poisoned || not (may_refuse needs seen.count)) _ _ _ _
+    (λ refused. answered needs call registered NotPoisoned (Says false) (poison-names needs call NotPoisoned is).0)
+    (λ sound. either (IsUnderNext needs call registered place.back stage []) seen.is_flagged _ _ (λ flagged. stays) (λ clear. (is, tells, refl)))
 
 -- a place that has poisoned the lock, or shut the semaphore, works for the waiters
 pub poison-working : (needs : Needs) (call : WordCall) (registered : Registration) (back : AfterWalk) → is_poisoning needs.is_lock call ≡ true → back ≡ Tells

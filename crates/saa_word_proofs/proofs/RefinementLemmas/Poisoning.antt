@@ -1,29 +1,27 @@
 -- Steps of a place that poisons a lock or shuts a semaphore, or clears poison: each keeps that words and places refine the abstract state.
-use Rattle.std.proofs.Common.{◌^◌, ◌≡◌, ℕ, ◌+◌, ◌/◌, ◌%◌, ◌<◌, ◌≤◌, Bool, true, false, not, ◌||◌, [], ◌∷◌, ◌==◌, if◌then◌else◌, refl, sym, ap, subst, ◌∙◌, arith, inl, inr, append-nil}
+use Rattle.std.proofs.Common.{◌^◌, ◌≡◌, ℕ, ◌+◌, ◌<◌, ◌≤◌, Bool, true, false, not, ◌||◌, [], ◌∷◌, ◌==◌, refl, sym, ap, subst, ◌∙◌, arith, inl, inr, append-nil}
 use Rattle.std.proofs.lemmas.Bool.{cases_Bool}
 use Rattle.std.proofs.lemmas.Bool.Decides.{nat_tests}
-use Rattle.saa_core_spec.specs.Object.{one_if}
 use Rattle.saa_core_spec.proofs.Counts.{number_same, same_number, number_other}
 use Rattle.saa_core_words.specs.declared.word.Word.{Word}
 use Rattle.saa_core_words.specs.Words.{count_bits, word_number, word_of}
 use Rattle.saa_word_steps.specs.declared.place.Place.{Place}
 use Rattle.saa_word_steps.specs.declared.place.AfterShow.TheVariants.{Ends}
 use Rattle.saa_word_steps.specs.declared.place.Next.{Next}
-use Rattle.saa_word_steps.specs.declared.place.Next.TheVariants.{Waits}
 use Rattle.saa_word_steps.specs.declared.place.Stage.{Stage}
 use Rattle.saa_word_steps.specs.declared.place.Stage.TheVariants.{Quiet, ShowLoad, PoisonLoad, PoisonExchange, Clear}
 use Rattle.saa_word_steps.specs.Needs.{Needs, kept, may_refuse}
 use Rattle.saa_word_steps.proofs.Giving.{kept-small, kept-twice}
 use Rattle.saa_word_steps.specs.declared.event.Event.TheVariants.{Poisoned, NotPoisoned, Cleared, NotCleared}
-use Rattle.saa_word_steps.specs.AbstractState.{AbstractState, MayRefuse, is_empty, is_in, answered_with, granted_by, held_by}
-use Rattle.saa_word_steps.specs.Steps.{IsRanged, going, poisoning, settled_word}
+use Rattle.saa_word_steps.specs.AbstractState.{AbstractState, MayRefuse, is_empty, answered_with, granted_by, held_by}
+use Rattle.saa_word_steps.specs.Steps.{IsRanged, poisoning, settled_word}
 use Rattle.saa_word_steps.specs.Readings.{poisoned_word, refusing_word}
 use Rattle.saa_word_proofs.specs.Refinement.{joins_line, newest, is_holder, takes_back, IsLocallyTrue, IsOwn, IsShowing, Invariant}
 use Rattle.saa_word_proofs.specs.Rows.{line_of, main_of, updated}
 use Rattle.saa_word_proofs.specs.StepRefinement.{poisoning_events}
 use Rattle.saa_word_proofs.proofs.RefinementLemmas.Lists.{updated-same, front-none, front-some}
 use Rattle.saa_word_proofs.proofs.RefinementLemmas.Frames.{stages-next}
-use Rattle.saa_word_proofs.proofs.RefinementLemmas.Rows.{IsStep, at-stage, moved, loaded, main-found, line-main, seats-next, count-small, tail-small, answers-kept}
+use Rattle.saa_word_proofs.proofs.RefinementLemmas.Rows.{either, IsStep, at-stage, moved, loaded, main-found, line-main, seats-next, count-small, tail-small, answers-kept}
 use Rattle.saa_word_proofs.proofs.RefinementLemmas.Holders.{main-now, nobody-holds}
 use Rattle.saa_word_proofs.proofs.RefinementLemmas.Outcomes.{rests, exchanged, unseen, Outcome, not-holder, only-looked}
 use Rattle.saa_word_proofs.proofs.RefinementLemmas.Flagging.{not-true}
@@ -33,15 +31,11 @@ use Rattle.saa_word_proofs.proofs.RefinementLemmas.Granting.{in-waits, in-no, he
 
 -- a test that is false says both
 neither : (poisoned owned : Bool) → poisoned || not owned ≡ false → (poisoned ≡ false) × (owned ≡ true)
-neither true owned test = absurd (cc)
-neither false true test = (refl, refl)
-neither false false test = absurd (cc)
+neither poisoned owned test = (grind (arith, test), grind (arith, test))
 
 -- where nothing is poisoned, a test that is true says that it isn't owned
 not-owned : (poisoned owned : Bool) → poisoned || not owned ≡ true → poisoned ≡ false → owned ≡ false
-not-owned true owned test calm = absurd (cc)
-not-owned false true test calm = absurd (cc)
-not-owned false false test calm = refl
+not-owned poisoned owned test calm = grind (arith, test, calm)
 
 -- Poison that is decided by the main word as it stands
 poisoning-outcome : (needs : Needs) (places : ℕ) (row : ℕ → ℕ) (standing : ℕ → Place) (state : AbstractState) (me : ℕ)
@@ -53,9 +47,8 @@ poisoning-outcome needs places row standing state me s none nothing tells =
     elim (cases_Bool (seen.is_poisoned || not (may_refuse needs seen.count))) [
       | inl refused ↦
           let other : MayRefuse needs state → ⊥ = λ owned.
-          let apart = not-owned seen.is_poisoned (may_refuse needs seen.count) refused (s.main.poison ∙ owned.0) in
-          let same : may_refuse needs seen.count ≡ true = ap (may_refuse needs) s.main.count ∙ owned.1 in
-          let wrong : true ≡ false = sym same ∙ apart in
+          let wrong : true ≡ false = sym (ap (may_refuse needs) s.main.count ∙ owned.1)
+          ∙ not-owned seen.is_poisoned (may_refuse needs seen.count) refused (s.main.poison ∙ owned.0) in
           absurd (cc) in
           rw refused (record {
             events = NotPoisoned ∷ [];
@@ -66,16 +59,11 @@ poisoning-outcome needs places row standing state me s none nothing tells =
           })
       | inr owned ↦
           let both = neither seen.is_poisoned (may_refuse needs seen.count) owned in
-          elim (cases_Bool seen.is_flagged) [
-            | inl flagged ↦ rw (owned, flagged) (unseen
-                (subst (λ (p : ℕ → Place). Invariant needs places row p state) (sym (updated-same standing me (standing me) refl)) s))
-            | inr clear ↦ rw owned
-                (subst (λ (next : Next). Outcome needs places row standing state me next [])
-                (sym (ap (λ (flagged : Bool). if flagged then Waits else going (standing me) (PoisonExchange seen)) clear)) (unseen
-                (moved needs places row standing state me s (record (standing me) { stage = PoisonExchange seen }) (λ out. refl) refl
-                (count-small (row 0)) (tells, tail-small (row 0), both.1, clear, both.0)
-                (λ gives. absurd (cc)) tt nothing (sym none) (λ is. absurd (not-holder needs places row standing state me s none is)))))
-          ]
+          rw owned (either (λ (next : Next). Outcome needs places row standing state me next []) seen.is_flagged _ _
+          (λ flagged. unseen (subst (λ (p : ℕ → Place). Invariant needs places row p state) (sym (updated-same standing me (standing me) refl)) s))
+          (λ clear. unseen (moved needs places row standing state me s (record (standing me) { stage = PoisonExchange seen }) (λ out. refl) refl
+          (count-small (row 0)) (tells, tail-small (row 0), both.1, clear, both.0)
+          (λ gives. absurd (cc)) tt nothing (sym none) (λ is. absurd (not-holder needs places row standing state me s none is)))))
     ]
 
 -- The poisoner looks at the main word
@@ -98,11 +86,7 @@ poisoned_after needs state me = record state {
 
 -- poison changes how a place is held, and not whether it is
 held-poisoned : (needs : Needs) (state : AbstractState) (me place : ℕ) → held_by place state ≤ 1 → held_by place (poisoned_after needs state me) ≡ held_by place state
-held-poisoned needs state me place once =
-    elim (cases_Bool (is_in place state.line)) [
-      | inl some ↦ rw some (omega (arith, once, in-waits place state.line some))
-      | inr none ↦ rw none (omega (arith, in-no place state.line none))
-    ]
+held-poisoned needs state me place once = grind (arith, once, in-waits place state.line, in-no place state.line)
 
 -- A lock is poisoned, or a semaphore shut, by a write to the main word: the waiters' answers are owed by the place that did so, which goes on at a stage
 poisoned-stands : (needs : Needs) → needs.top < 2 ^ count_bits
@@ -192,19 +176,9 @@ step-PoisonExchange seen needs lawful wide places row standing state me room s a
           only-looked needs places row standing state me (PoisonExchange seen) out refl (rw differs refl) (rw differs refl) (rw differs refl)
     ]
 
--- a bit that is tested is that bit
-bit-kept : (number : ℕ) → one_if (number % 2 == 1) ≡ number % 2
-bit-kept number =
-    elim (cases_Bool (number % 2 == 1)) [
-      | inl one ↦ rw one (sym (same_number (number % 2) 1 one))
-      | inr other ↦
-          let zero : number % 2 ≡ 0 = grind (arith, nat_tests, other) in
-          rw other (sym zero)
-    ]
-
 -- a number of a main word is that of the word that it is read as
 number-kept : (number : ℕ) → number < 2 ^ (count_bits + 18) → word_number count_bits (word_of count_bits number) ≡ number
-number-kept number whole = omega (arith, whole, bit-kept (number / 2 ^ count_bits), bit-kept (number / 2 ^ count_bits / 2))
+number-kept number whole = grind (arith, whole, nat_tests)
 
 -- the main word of a poisoned lock is that of poison alone, and that of a shut semaphore has its count beside it
 pub poisoned-number : (needs : Needs) (places : ℕ) (row : ℕ → ℕ) (standing : ℕ → Place) (state : AbstractState) (s : Invariant needs places row standing state)
@@ -220,10 +194,6 @@ poisoned-number needs places row standing state s poisoned =
     let is : word ≡ refusing_word needs word = λ i. record { count = count i; is_flagged = flag i; is_poisoned = poison i; tail = tail i } in
     sym (number-kept (row 0) s.main.whole) ∙ ap (word_number count_bits) is
 
--- the word that a lock is poisoned by
-lock-word : (needs : Needs) (seen : Word) → needs.is_lock ≡ true → refusing_word needs seen ≡ poisoned_word
-lock-word needs seen lock = rw lock refl
-
 -- what isn't cleared isn't poisoned
 never-poisoned : (needs : Needs) (places : ℕ) (row : ℕ → ℕ) (standing : ℕ → Place) (state : AbstractState) (s : Invariant needs places row standing state)
     → needs.is_lock ≡ true → row 0 == word_number count_bits poisoned_word ≡ false → state.poisoned ≡ false
@@ -231,27 +201,11 @@ never-poisoned needs places row standing state s lock differs =
     elim (cases_Bool state.poisoned) [
       | inl poisoned ↦
           let is : row 0 ≡ word_number count_bits poisoned_word =
-          poisoned-number needs places row standing state s poisoned ∙ ap (word_number count_bits) (lock-word needs (main_of row) lock) in
-          let same : row 0 == word_number count_bits poisoned_word ≡ true = ap (λ (n : ℕ). n == word_number count_bits poisoned_word) is in
-          let wrong : true ≡ false = sym same ∙ differs in
+          poisoned-number needs places row standing state s poisoned ∙ rw lock refl in
+          let wrong : true ≡ false = sym (ap (λ (n : ℕ). n == word_number count_bits poisoned_word) is) ∙ differs in
           absurd (cc)
       | inr calm ↦ calm
     ]
-
--- Poison is cleared by a write to the main word, where nobody waits
-cleared-stands : (needs : Needs) (places : ℕ) (row : ℕ → ℕ) (standing : ℕ → Place) (state : AbstractState) (me : ℕ) (s : Invariant needs places row standing state)
-    → is_holder (standing me).stage ≡ false → s.owed me ≡ [] → needs.is_lock ≡ true → state.poisoned ≡ true
-    → Invariant needs places (updated row 0 (word_number count_bits (settled_word 0 0))) (updated standing me (record (standing me) { stage = Quiet }))
-    (record state { poisoned = false })
-cleared-stands needs places row standing state me s none nothing lock poisoned =
-    let barren = s.main.barren poisoned in
-    let none_held : state.count ≡ 0 = barren.0 ∙ rw lock refl in
-    let unheld : s.holder == 0 ≡ true = nobody-holds needs places row standing state s (ap is_empty barren.1) in
-    exchanged needs places row standing state me s (word_number count_bits (settled_word 0 0)) state.count state.unclosed false s.holder
-    (record (standing me) { stage = Quiet }) (λ out. refl) refl tt tt refl tt nothing (sym none ∙ s.stages.one me)
-    (λ is. absurd (not-holder needs places row standing state me s none is)) (λ other differs. refl) (λ other it. omega arith) (λ free. free)
-    (main-now needs (record state { poisoned = false }) s.holder (settled_word 0 0) (omega arith) (omega arith)
-    (sym none_held) (sym (ap (newest 0) barren.1)) (sym (ap not unheld)) refl (λ now. absurd (cc)) s.main.bounded s.main.closed s.main.settled)
 
 -- A call that clears poison does so in one exchange, or finds none
 pub step-Clear : IsStep Clear
@@ -262,13 +216,20 @@ step-Clear needs lawful wide places row standing state me room s at =
       | inl same ↦
           let is : main_of row ≡ poisoned_word = main-found (row 0) poisoned_word (omega arith) (omega arith) same in
           let poisoned : state.poisoned ≡ true = sym s.main.poison ∙ ap (λ (w : Word). w.is_poisoned) is in
+          let barren = s.main.barren poisoned in
+          let none_held : state.count ≡ 0 = barren.0 ∙ rw known.alone refl in
+          let unheld : s.holder == 0 ≡ true = nobody-holds needs places row standing state s (ap is_empty barren.1) in
           record {
             events = Cleared ∷ [];
             last = record state { poisoned = false };
             run = ((poisoned, known.alone), refl);
             names = rw same refl;
             inside = omega arith;
-            stands = rw same (cleared-stands needs places row standing state me s none known.showing known.alone poisoned);
+            stands = rw same (exchanged needs places row standing state me s (word_number count_bits (settled_word 0 0)) state.count state.unclosed false s.holder
+                (record (standing me) { stage = Quiet }) (λ out. refl) refl tt tt refl tt known.showing (sym none ∙ s.stages.one me)
+                (λ is. absurd (not-holder needs places row standing state me s none is)) (λ other differs. refl) (λ other it. omega arith) (λ free. free)
+                (main-now needs (record state { poisoned = false }) s.holder (settled_word 0 0) (omega arith) (omega arith) (sym none_held)
+                (sym (ap (newest 0) barren.1)) (sym (ap not unheld)) refl (λ now. absurd (cc)) s.main.bounded s.main.closed s.main.settled));
           }
       | inr differs ↦ record {
         events = NotCleared ∷ [];

@@ -1,9 +1,8 @@
 -- The step that writes an answer, and the one that takes an answer.
-use Rattle.std.proofs.Common.{◌≡◌, ℕ, ◌+◌, ◌%◌, ◌<◌, Bool, true, false, not, ◌&&◌, ◌||◌, List, [], ◌∷◌, ◌++◌, ◌==◌, Option, Some, None, is_some, if◌then◌else◌, refl, sym, ap, subst, ◌∙◌, arith, inl, inr, append-nil}
-use Rattle.std.proofs.lemmas.Bool.{cases_Bool}
+use Rattle.std.proofs.Common.{◌≡◌, ℕ, ◌+◌, ◌%◌, ◌<◌, true, false, not, ◌&&◌, ◌||◌, List, [], ◌∷◌, ◌++◌, ◌==◌, Option, Some, None, is_some, refl, sym, ap, subst, ◌∙◌, arith, append-nil}
 use Rattle.saa_core_spec.specs.Object.{one_if, times}
 use Rattle.saa_core_spec.specs.Values.{granted_value}
-use Rattle.saa_core_spec.proofs.Counts.{number_same, same_number, number_other, one_if-same, times-append}
+use Rattle.saa_core_spec.proofs.Counts.{number_same, number_other, one_if-same, times-append}
 use Rattle.saa_core_words.specs.declared.word.Word.{Word}
 use Rattle.saa_core_words.specs.declared.line_word.LineWord.{LineWord}
 use Rattle.saa_core_words.specs.Words.{answer_number, answer_of}
@@ -26,17 +25,18 @@ use Rattle.saa_word_steps.specs.declared.place.Next.TheVariants.{Going, Done}
 use Rattle.saa_word_steps.specs.Needs.{Needs}
 use Rattle.saa_word_steps.specs.declared.event.Event.TheVariants.{Showed, AnswerTaken, NotReady}
 use Rattle.saa_word_steps.specs.AbstractState.{AbstractState, is_empty, is_in, held_by, with_answer}
-use Rattle.saa_word_steps.specs.Steps.{IsRanged, shown_all, going, taken_answer}
-use Rattle.saa_word_proofs.specs.Refinement.{joins_line, newest, is_holder, gives_up, IsLocallyTrue, IsOwn, IsShowing, IsHolding, AreAnswers, Invariant}
+use Rattle.saa_word_steps.specs.Steps.{IsRanged, shown_all, taken_answer}
+use Rattle.saa_word_steps.proofs.AbstractRuns.{waits-none}
+use Rattle.saa_word_proofs.specs.Refinement.{newest, is_holder, gives_up, IsLocallyTrue, IsOwn, IsShowing, IsHolding, Invariant}
 use Rattle.saa_word_proofs.specs.Rows.{line_of, updated}
 use Rattle.saa_word_proofs.specs.Registering.{is_slot}
 use Rattle.saa_word_proofs.specs.StepRefinement.{place_after, taken_events}
-use Rattle.saa_word_proofs.proofs.RefinementLemmas.Lists.{each-updated, updated-same, updated-at, newest-empty, empty-nil, in-some}
+use Rattle.saa_word_proofs.proofs.RefinementLemmas.Lists.{each-updated, updated-same, newest-empty, empty-nil, in-some}
 use Rattle.saa_word_proofs.proofs.RefinementLemmas.Frames.{stages-next}
-use Rattle.saa_word_proofs.proofs.RefinementLemmas.Rows.{IsOwnStep, IsStep, row-other, IsAtStage, at-stage, seats-by, debts-kept}
+use Rattle.saa_word_proofs.proofs.RefinementLemmas.Rows.{either, IsOwnStep, IsStep, IsAtStage, at-stage, seats-by, debts-kept}
 use Rattle.saa_word_proofs.proofs.RefinementLemmas.Outcomes.{rests, unseen, Outcome, not-holder}
 use Rattle.saa_word_proofs.proofs.RefinementLemmas.Ending.{end_stage, ended, ended-ranged, ended-alone, ended-apart, ended-joins, ended-own, ended-showing, ended-holder}
-use Rattle.saa_word_proofs.proofs.RefinementLemmas.Showing.{shown, due-inside, line-answer, line-shown, own-shown, holding-shown, main-shown, store-load}
+use Rattle.saa_word_proofs.proofs.RefinementLemmas.Showing.{AtAny, shown, answers-written, due-inside, line-answer, line-shown, own-shown, holding-shown, main-shown, store-load}
 
 -- what the place of the last answer does that goes on with the line
 walk-holding : (needs : Needs) (words : ℕ → LineWord) (me held : ℕ) (line cut : List (ℕ × ℕ)) (current next value : ℕ) (seen : Word)
@@ -71,18 +71,12 @@ step-ShowStore current next value afterwards needs lawful wide places row standi
     ∙ ap (λ (n : ℕ). updated row (places + (asker.0 + 1)) (answer_number (Some n))) known.showing.5 in
     let empty : next == 0 ≡ is_empty before = ap (λ (n : ℕ). n == 0) known.showing.4 ∙ newest-empty before in
     let nothing : next == 0 ≡ true → before ≡ [] = λ done. empty-nil before (sym empty ∙ done) in
-    let place : Place = place_after (standing me) (if next == 0 then shown_all (standing me) afterwards else going (standing me) (ShowLoad next value afterwards)) in
     let alike = store-load needs (line_of row) me state.count state.line s.cut current next next value afterwards in
-    let then_stands : (goes : Stage) → place ≡ record (standing me) { stage = goes } → joins_line goes ≡ false → IsRanged needs goes
-    → IsLocallyTrue needs (standing me).registration (standing me).back goes → (gives_up (standing me).back goes ≡ true → is_in me state.line ≡ false)
-    → ((word : LineWord) → IsOwn word goes) → IsShowing before (s.answer_value me) goes → is_holder goes ≡ is_holder stage
-    → (s.holder ≡ me + 1 → IsHolding needs (line_of row) me state.count state.line s.cut goes)
-    → Invariant needs places (updated row (places + current) (answer_number (Some value))) (updated standing me place) last =
-    λ goes is goes_never goes_ranged goes_alone goes_apart goes_own goes_showing goes_holder goes_holding.
-    subst (λ (r : ℕ → ℕ). Invariant needs places r (updated standing me place) last) (sym row_is)
-    (subst (λ (p : Place). Invariant needs places (updated row (places + (asker.0 + 1)) (answer_number (Some (s.answer_value me)))) (updated standing me p) last) (sym is)
-    (shown needs places row standing state me s before asker known.showing.2 goes goes_never goes_ranged goes_alone goes_apart goes_own goes_showing
-    (goes_holder ∙ ap is_holder (sym at)) goes_holding)) in
+    let Stands : Place → Type 0 = λ p. Invariant needs places (updated row (places + current) (answer_number (Some value))) (updated standing me p) last in
+    let then_stands : AtAny needs places row standing state s me before Stands =
+    λ goes never ranged alone apart own showing holder holding.
+    subst (λ (r : ℕ → ℕ). Invariant needs places r (updated standing me (record (standing me) { stage = goes })) last) (sym row_is)
+    (shown needs places row standing state s me before asker known.showing.2 goes never ranged alone apart own showing holder holding) in
     record {
       events = Showed asker.0 ∷ [];
       last = last;
@@ -90,34 +84,24 @@ step-ShowStore current next value afterwards needs lawful wide places row standi
       names = refl;
       inside = omega (arith, known.showing.3, due-inside needs places row standing state s me asker.0 mine);
       stands =
-          elim (cases_Bool (next == 0)) [
-            | inl done ↦ at-end needs places row standing state me s current next value afterwards before last done (nothing done) known then_stands
-            | inr more ↦ then_stands (ShowLoad next value afterwards) (rw more refl) refl
-                (alike.ranged known.ranged) known.alone known.apart (λ word. tt)
-                (sym known.showing.4, sym empty ∙ more, known.showing.5) alike.holder
-                (λ it. alike.holding (known.holding it))
-          ];
+          either (λ (n : Next). Stands (place_after (standing me) n)) (next == 0) _ _
+          (λ done. at-end needs places row standing state me s current next value afterwards before (nothing done) known at Stands then_stands)
+          (λ more. then_stands (ShowLoad next value afterwards) refl (alike.ranged known.ranged) known.alone known.apart (λ word. tt)
+          (sym known.showing.4, sym empty ∙ more, known.showing.5) (alike.holder ∙ ap is_holder (sym at)) (λ it. alike.holding (known.holding it)));
     }
   where
     at-end : (needs : Needs) (places : ℕ) (row : ℕ → ℕ) (standing : ℕ → Place) (state : AbstractState) (me : ℕ) (s : Invariant needs places row standing state)
-        (current next value : ℕ) (afterwards : AfterShow) (before : List (ℕ × ℕ)) (last : AbstractState) → next == 0 ≡ true → before ≡ []
-        → IsAtStage needs places row standing state me s (ShowStore current next value afterwards)
-        → ((goes : Stage) → place_after (standing me) (if next == 0 then shown_all (standing me) afterwards else going (standing me) (ShowLoad next value afterwards))
-        ≡ record (standing me) { stage = goes } → joins_line goes ≡ false → IsRanged needs goes
-        → IsLocallyTrue needs (standing me).registration (standing me).back goes → (gives_up (standing me).back goes ≡ true → is_in me state.line ≡ false)
-        → ((word : LineWord) → IsOwn word goes) → IsShowing before (s.answer_value me) goes → is_holder goes ≡ is_holder (ShowStore current next value afterwards)
-        → (s.holder ≡ me + 1 → IsHolding needs (line_of row) me state.count state.line s.cut goes)
-        → Invariant needs places (updated row (places + current) (answer_number (Some value)))
-        (updated standing me (place_after (standing me) (if next == 0 then shown_all (standing me) afterwards else going (standing me) (ShowLoad next value afterwards)))) last)
-        → Invariant needs places (updated row (places + current) (answer_number (Some value)))
-        (updated standing me (place_after (standing me) (if next == 0 then shown_all (standing me) afterwards else going (standing me) (ShowLoad next value afterwards)))) last
-    at-end needs places row standing state me s current next value Ends before last done nothing known goes =
+        (current next value : ℕ) (afterwards : AfterShow) (before : List (ℕ × ℕ)) → before ≡ []
+        → IsAtStage needs places row standing state me s (ShowStore current next value afterwards) → (standing me).stage ≡ ShowStore current next value afterwards
+        → (P : Place → Type 0) → AtAny needs places row standing state s me before P → P (place_after (standing me) (shown_all (standing me) afterwards))
+    at-end needs places row standing state me s current next value Ends before nothing known at P goes =
         let back : AfterWalk = (standing me).back in
-        goes (end_stage back) (rw done (ended (standing me) back)) (ended-joins back) (ended-ranged needs back) (ended-alone needs (standing me).registration back known.alone)
-        (λ gives. known.apart (sym (ended-apart back) ∙ gives)) (λ word. ended-own word back) (ended-showing before (s.answer_value me) back nothing) (ended-holder back)
-        (λ it. absurd (known.holding it))
-    at-end needs places row standing state me s current next value (Again seen) before last done nothing known goes =
-        goes (BackLoad seen seen.tail 0) (rw done refl) refl known.ranged known.alone known.apart (λ word. tt) nothing refl
+        subst P (sym (ended (standing me) back))
+        (goes (end_stage back) (ended-joins back) (ended-ranged needs back) (ended-alone needs (standing me).registration back known.alone)
+        (λ gives. known.apart (sym (ended-apart back) ∙ gives)) (λ word. ended-own word back) (ended-showing before (s.answer_value me) back nothing)
+        (ended-holder back ∙ ap is_holder (sym at)) (λ it. absurd (known.holding it)))
+    at-end needs places row standing state me s current next value (Again seen) before nothing known at P goes =
+        goes (BackLoad seen seen.tail 0) refl known.ranged known.alone known.apart (λ word. tt) nothing (ap is_holder (sym at))
         (λ it. walk-holding needs (line_of row) me state.count state.line s.cut current next value seen (known.holding it))
 
 -- an answer word is read as the answer that it shows
@@ -136,27 +120,6 @@ held-taken needs places row standing state s me value place slot is idle =
     standing me place
     (rw (number_same me) (omega (arith, s.seats.held me, ap one_if slot, ap one_if idle, ap (λ (a : Option ℕ). one_if (is_some a)) is)))
     (λ other apart. rw (number_other other me apart) (s.seats.held other))
-
--- the answer words once an answer is taken
-answers-taken : (needs : Needs) (places : ℕ) (row : ℕ → ℕ) (standing : ℕ → Place) (state : AbstractState) (s : Invariant needs places row standing state) (me : ℕ)
-    → AreAnswers places (updated row (places + (me + 1)) 0) (with_answer me None state.shown)
-answers-taken needs places row standing state s me = record {
-  words = λ place inside.
-      elim (cases_Bool (place == me)) [
-        | inl same ↦
-            let index : places + place + 1 ≡ places + (me + 1) = omega (arith, same_number place me same) in
-            rw same (ap (updated row (places + (me + 1)) 0) index ∙ updated-at row (places + (me + 1)) 0)
-        | inr apart ↦
-            let index : places + place + 1 ≡ places + (me + 1) → ⊥ =
-            λ is. let wrong : place == me ≡ true = ap (λ (n : ℕ). place == n) (omega (arith, is)) ∙ number_same place in absurd (cc) in
-            rw apart (row-other row (places + (me + 1)) 0 (places + place + 1) index ∙ s.answers.words place inside)
-      ];
-  small = λ place value.
-      elim (cases_Bool (place == me)) [
-        | inl same ↦ rw same (λ is. absurd (cc))
-        | inr apart ↦ rw apart (s.answers.small place value)
-      ];
-}
 
 -- An answer is taken, whatever the place does next
 taken : (needs : Needs) (places : ℕ) (row : ℕ → ℕ) (standing : ℕ → Place) (state : AbstractState) (me value : ℕ)
@@ -181,7 +144,7 @@ taken needs places row standing state me value here s slot none is place idle ra
       line = line-shown needs places row standing state s (me + 1) 0 some;
       seats = seats-by places standing state (record state { shown = with_answer me None state.shown }) me place s.seats
           (held-taken needs places row standing state s me value place slot is idle) (λ slot. here) (λ out. absurd (omega (arith, out, here)));
-      answers = answers-taken needs places row standing state s me;
+      answers = answers-written places row state.shown me None (λ value is. absurd (cc)) s.answers;
       debts = debts-kept (line_of row) new state.due state.granter s.owed s.answer_value s.debts
           (λ other one there. line-answer row places (me + 1) 0 one (due-inside needs places row standing state s other one (in-some one (s.owed other) there)) some);
       stages = stages-next needs (line_of row) new standing state.count state.count state.line state.line s.cut s.cut s.holder s.holder s.owed s.owed
@@ -194,17 +157,9 @@ taken needs places row standing state me value here s slot none is place idle ra
           (λ other differs it. holding-shown needs places row standing state s (me + 1) 0 some other (standing other).stage (s.stages.holding other it));
     })
 
--- a place that has joined and has no answer waits, or its answer is due
-not-yet : (waits : Bool) (due : Bool) (often : ℕ) → (0 < often → waits ≡ true) → often + one_if due ≡ 1 → (waits || due) ≡ true
-not-yet true due often there one = refl
-not-yet false true often there one = refl
-not-yet false false often there one = absurd (let wrong : false ≡ true = there (omega (arith, one)) in absurd (cc))
-
--- what is so of both ways that a place goes on is so of the one that it takes
-either : (P : Place → Type 0) (place : Place) (test : Bool) (one other : Next) → P (place_after place one) → P (place_after place other)
-    → P (place_after place (if test then one else other))
-either P place true one other p q = p
-either P place false one other p q = q
+-- a place that is held and has no answer to take is in the line, or its answer is to be shown
+pub held-else : (state : AbstractState) (me : ℕ) → held_by me state ≡ 1 → state.shown me ≡ None → (is_in me state.line || is_some (state.due me)) ≡ true
+held-else state me held none = grind (arith, held, none, waits-none me state.line)
 
 -- who takes its answer is registered in the line
 pub take-slot : (needs : Needs) (registration : Registration) (back : AfterWalk) (taking : PollMode) → IsLocallyTrue needs registration back (Take taking)
@@ -232,19 +187,16 @@ takes needs places row standing state me here s slot none nothing (Gives request
   stands =
       let drops : Place = record (standing me) { registration = Idle; stage = ReleaseLoad (Requested request); back = EndsCall } in
       let quiet : Place = record (standing me) { registration = Idle; stage = Quiet } in
-      either (λ (p : Place). Invariant needs places (updated row (places + me + 1) 0) (updated standing me p) (record state { shown = with_answer me None state.shown }))
-      (standing me) (value == granted_value && not (needs.takes request == 0)) (Going drops) (Done quiet Ended)
-      (taken needs places row standing state me value here s slot none is drops refl tt refl refl (λ word. tt) nothing refl)
-      (taken needs places row standing state me value here s slot none is quiet refl tt tt refl (λ word. tt) nothing refl);
+      either (λ (n : Next).
+      Invariant needs places (updated row (places + me + 1) 0) (updated standing me (place_after (standing me) n)) (record state { shown = with_answer me None state.shown }))
+      (value == granted_value && not (needs.takes request == 0)) (Going drops) (Done quiet Ended)
+      (λ up. taken needs places row standing state me value here s slot none is drops refl tt refl refl (λ word. tt) nothing refl)
+      (λ free. taken needs places row standing state me value here s slot none is quiet refl tt tt refl (λ word. tt) nothing refl);
 }
 takes needs places row standing state me here s slot none nothing Tries None is number = record {
   events = NotReady ∷ [];
   last = state;
-  run = (
-    not-yet (is_in me state.line) (is_some (state.due me)) (times me state.line) (in-some me state.line)
-        (omega (arith, s.seats.held me, ap one_if slot, ap (λ (a : Option ℕ). one_if (is_some a)) is)),
-    refl,
-  );
+  run = (held-else state me (s.seats.held me ∙ ap one_if slot) is, refl);
   names = refl;
   stands =
       subst (λ (r : ℕ → ℕ). Invariant needs places r (updated standing me (record (standing me) { stage = Quiet })) state)

@@ -1,5 +1,5 @@
 -- What stands in the words at every moment, and how all begins.
-use Rattle.std.proofs.Common.{◌≡◌, ℕ, ◌+◌, ◌/◌, ◌%◌, ◌^◌, ◌<◌, ◌≤◌, Bool, true, false, not, List, [], ◌∷◌, ◌++◌, ◌==◌, refl, sym, ap, subst, ◌∙◌, arith, append-nil, append_assoc}
+use Rattle.std.proofs.Common.{◌≡◌, ℕ, ◌+◌, ◌/◌, ◌%◌, ◌^◌, ◌<◌, ◌≤◌, true, false, List, [], ◌∷◌, ◌++◌, ◌==◌, refl, sym, ap, subst, ◌∙◌, arith, append-nil, append_assoc}
 use Rattle.std.proofs.lemmas.Bool.Decides.{nat_tests}
 use Rattle.saa_core_spec.proofs.Counts.{one_if-le}
 use Rattle.saa_core_words.specs.declared.line_word.LineWord.{LineWord}
@@ -11,6 +11,7 @@ use Rattle.saa_word_proofs.specs.Refinement.{newest, Invariant}
 use Rattle.saa_word_proofs.specs.Rows.{IsBehind, line_of, main_of}
 use Rattle.saa_word_proofs.specs.Registering.{is_slot}
 use Rattle.saa_word_proofs.specs.Promises.{idle_place, opening_row, AreAsking, IsChain, newest_first, WordsShow}
+use Rattle.saa_word_proofs.proofs.RefinementLemmas.Flagging.{not-true}
 use Rattle.saa_word_proofs.proofs.RefinementLemmas.Poisoning.{poisoned-number}
 
 -- along older neighbours a line is met from its newest on
@@ -21,11 +22,6 @@ line-met words older (asker ∷ rest) before behind met =
     let further : IsChain words (asker.0 + 1) (asker.0 ∷ before) = (refl, subst (λ (n : ℕ). IsChain words n before) (sym behind.1) met) in
     subst (λ (l : List ℕ). IsChain words (newest (asker.0 + 1) rest) l) (sym (append_assoc (newest_first rest) (asker.0 ∷ []) before))
     (line-met words (asker.0 + 1) rest (asker.0 ∷ before) behind.2 further)
-
--- what isn't false so is true
-not-false : (mark : Bool) → not mark ≡ false → mark ≡ true
-not-false true is = refl
-not-false false is = absurd (cc)
 
 -- a waiter behind another asks what its line word says
 pub behind-asks : (words : ℕ → LineWord) (older : ℕ) (line : List (ℕ × ℕ)) → IsBehind words older line → AreAsking words line
@@ -40,7 +36,7 @@ asks-append words (asker ∷ front) rest one other = (one.0, asks-append words f
 pub says-so : (needs : Needs) (places : ℕ) (row : ℕ → ℕ) (standing : ℕ → Place) (state : AbstractState) → Invariant needs places row standing state
     → WordsShow needs places row state
 says-so needs places row standing state s =
-    let free : (main_of row).is_flagged ≡ false → s.holder == 0 ≡ true = λ clear. not-false (s.holder == 0) (sym s.main.flag ∙ clear) in
+    let free : (main_of row).is_flagged ≡ false → s.holder == 0 ≡ true = λ clear. not-true (s.holder == 0) (sym s.main.flag ∙ clear) in
     record {
       count = s.main.count;
       poisoned = s.main.poison;

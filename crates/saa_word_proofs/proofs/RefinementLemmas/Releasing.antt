@@ -9,7 +9,6 @@ use Rattle.saa_word_steps.specs.declared.place.Place.{Place}
 use Rattle.saa_word_steps.specs.declared.place.ReleaseAmount.{ReleaseAmount}
 use Rattle.saa_word_steps.specs.declared.place.ReleaseAmount.TheVariants.{Requested, AllButAShare}
 use Rattle.saa_word_steps.specs.declared.place.AfterWalk.{AfterWalk}
-use Rattle.saa_word_steps.specs.declared.place.AfterWalk.TheVariants.{Tells, Ends, Takes}
 use Rattle.saa_word_steps.specs.declared.place.Stage.{Stage}
 use Rattle.saa_word_steps.specs.declared.place.Stage.TheVariants.{Quiet, ReleaseLoad, ReleaseExchange, BackLoad}
 use Rattle.saa_word_steps.specs.Needs.{Needs, AreNeeds, forgets}
@@ -34,24 +33,14 @@ use Rattle.saa_word_proofs.proofs.RefinementLemmas.Ending.{end_stage, ended, end
 nothing-enabled : (needs : Needs) (state : AbstractState) (me : ℕ) (what : ReleaseAmount) → (forgets needs state.poisoned ≡ false → left_from needs state.count what ≡ None)
     → IsEnabled needs state me (gave_not what)
 nothing-enabled needs state me (Requested request) none = none
-nothing-enabled needs state me AllButAShare none =
-    λ owned.
-    let nothing : left_from needs state.count AllButAShare ≡ None = none (calm-loose needs state.poisoned owned.0) in
-    let share : left_from needs state.count AllButAShare ≡ Some 1 = rw (owned.2, owned.1) refl in
-    absurd (cc)
+nothing-enabled needs state me AllButAShare none = λ owned. grind (arith, owned, none (calm-loose needs state.poisoned owned.0))
 
 nothing-after : (needs : Needs) (state : AbstractState) (me : ℕ) (what : ReleaseAmount) → after_event needs state me (gave_not what) ≡ state
-nothing-after needs state me (Requested request) = refl
-nothing-after needs state me AllButAShare = refl
-
-nothing-named : (what : ReleaseAmount) → named (gave_not what ∷ []) ≡ gave_not what ∷ []
-nothing-named (Requested request) = refl
-nothing-named AllButAShare = refl
+nothing-after needs state me what = grind arith
 
 -- a lock that forgets nothing isn't poisoned
 lock-calm : (needs : Needs) (poisoned : Bool) → needs.is_lock ≡ true → forgets needs poisoned ≡ false → poisoned ≡ false
-lock-calm needs true lock loose = let wrong : true ≡ false = rw lock at loose in absurd (cc)
-lock-calm needs false lock loose = refl
+lock-calm needs poisoned lock loose = grind (arith, lock, loose)
 
 -- what is left is the count behind its event
 gave-enabled : (needs : Needs) (state : AbstractState) (me : ℕ) (what : ReleaseAmount) (left : ℕ) → forgets needs state.poisoned ≡ false
@@ -67,48 +56,42 @@ gave-after needs state me (Requested request) left is =
 gave-after needs state me AllButAShare left is =
     ap (λ (n : ℕ). record state { count = n; unclosed = not (is_empty state.line) || state.unclosed }) (sym (left-share needs state.count left is).0)
 
-gave-named : (what : ReleaseAmount) → named (gave what ∷ []) ≡ gave what ∷ []
-gave-named (Requested request) = refl
-gave-named AllButAShare = refl
+both-named : (what : ReleaseAmount) → (named (gave what ∷ []) ≡ gave what ∷ []) × (named (gave_not what ∷ []) ≡ gave_not what ∷ [])
+both-named what = (grind arith, grind arith)
 
 -- a place that gave nothing back is in no call
 quiet-nothing : (place : Place) (back : AfterWalk) → place_after place (gave_nothing place back) ≡ record place { stage = Quiet }
-quiet-nothing place Tells = refl
-quiet-nothing place Ends = refl
-quiet-nothing place (Takes request) = refl
+quiet-nothing place back = grind arith
 
--- A release of what isn't held, or of a poisoned lock
-nothing-outcome : (needs : Needs) (places : ℕ) (row : ℕ → ℕ) (standing : ℕ → Place) (state : AbstractState) (me : ℕ)
-    → (s : Invariant needs places row standing state) → is_holder (standing me).stage ≡ false → s.owed me ≡ []
-    → (what : ReleaseAmount) → IsEnabled needs state me (gave_not what)
-    → Outcome needs places row standing state me (gave_nothing (standing me) (standing me).back) (gave_not what ∷ [])
-nothing-outcome needs places row standing state me s none nothing what allowed = record {
-  events = gave_not what ∷ [];
-  last = state;
-  run = (allowed, nothing-after needs state me what);
-  names = nothing-named what;
-  stands = subst (λ (p : Place). Invariant needs places row (updated standing me p) state) (sym (quiet-nothing (standing me) (standing me).back))
-      (rests needs places row standing state me s (standing me).registration refl none nothing);
-}
+module _ (needs : Needs) (places : ℕ) (row : ℕ → ℕ) (standing : ℕ → Place) (state : AbstractState) (me : ℕ) (s : Invariant needs places row standing state)
+    (none : is_holder (standing me).stage ≡ false) (nothing : s.owed me ≡ []) where
+  -- A release of what isn't held, or of a poisoned lock
+  nothing-outcome : (what : ReleaseAmount) → IsEnabled needs state me (gave_not what)
+      → Outcome needs places row standing state me (gave_nothing (standing me) (standing me).back) (gave_not what ∷ [])
+  nothing-outcome what allowed = record {
+    events = gave_not what ∷ [];
+    last = state;
+    run = (allowed, nothing-after needs state me what);
+    names = (both-named what).1;
+    stands = subst (λ (p : Place). Invariant needs places row (updated standing me p) state) (sym (quiet-nothing (standing me) (standing me).back))
+        (rests needs places row standing state me s (standing me).registration refl none nothing);
+  }
 
--- A release that is decided by the main word as it stands
-given-outcome : (needs : Needs) (places : ℕ) (row : ℕ → ℕ) (standing : ℕ → Place) (state : AbstractState) (me : ℕ)
-    → (s : Invariant needs places row standing state) → is_holder (standing me).stage ≡ false → s.owed me ≡ []
-    → takes_back (standing me).back ≡ false → (what : ReleaseAmount) (poisoned : Bool) (left : Option ℕ)
-    → forgets needs (main_of row).is_poisoned ≡ poisoned → left_from needs (main_of row).count what ≡ left
-    → Outcome needs places row standing state me
-    (if poisoned then gave_nothing (standing me) (standing me).back else given_to (standing me) what (main_of row) left)
-    (if poisoned then gave_not what ∷ [] else left_events what left)
-given-outcome needs places row standing state me s none nothing ends what true left mark is =
-    nothing-outcome needs places row standing state me s none nothing what
-    (nothing-enabled needs state me what (λ loose. let wrong : true ≡ false = sym mark ∙ ap (forgets needs) s.main.poison ∙ loose in absurd (cc)))
-given-outcome needs places row standing state me s none nothing ends what false None mark is =
-    nothing-outcome needs places row standing state me s none nothing what
-    (nothing-enabled needs state me what (λ calm. ap (λ (n : ℕ). left_from needs n what) (sym s.main.count) ∙ is))
-given-outcome needs places row standing state me s none nothing ends what false (Some left) mark is =
-    unseen (moved needs places row standing state me s (record (standing me) { stage = ReleaseExchange what (main_of row) }) (λ out. refl) refl
-    (count-small (row 0)) (tail-small (row 0), (left, is), mark, ends) (λ gives. absurd (cc)) tt nothing (sym none)
-    (λ it. absurd (not-holder needs places row standing state me s none it)))
+  -- A release that is decided by the main word as it stands
+  given-outcome : takes_back (standing me).back ≡ false → (what : ReleaseAmount) (poisoned : Bool) (left : Option ℕ)
+      → forgets needs (main_of row).is_poisoned ≡ poisoned → left_from needs (main_of row).count what ≡ left
+      → Outcome needs places row standing state me
+      (if poisoned then gave_nothing (standing me) (standing me).back else given_to (standing me) what (main_of row) left)
+      (if poisoned then gave_not what ∷ [] else left_events what left)
+  given-outcome ends what true left mark is =
+      nothing-outcome what
+      (nothing-enabled needs state me what (λ loose. let wrong : true ≡ false = sym mark ∙ ap (forgets needs) s.main.poison ∙ loose in absurd (cc)))
+  given-outcome ends what false None mark is =
+      nothing-outcome what (nothing-enabled needs state me what (λ calm. ap (λ (n : ℕ). left_from needs n what) (sym s.main.count) ∙ is))
+  given-outcome ends what false (Some left) mark is =
+      unseen (moved needs places row standing state me s (record (standing me) { stage = ReleaseExchange what (main_of row) }) (λ out. refl) refl
+      (count-small (row 0)) (tail-small (row 0), (left, is), mark, ends) (λ gives. absurd (cc)) tt nothing (sym none)
+      (λ it. absurd (not-holder needs places row standing state me s none it)))
 
 -- A call that is to give back looks at the main word
 pub step-ReleaseLoad : (what : ReleaseAmount) → IsStep (ReleaseLoad what)
@@ -121,8 +104,7 @@ step-ReleaseLoad what needs lawful wide places row standing state me room s at =
 
 -- a line that isn't opened is empty
 unopened : (line : List (ℕ × ℕ)) (other : Bool) → not (is_empty line) || other ≡ false → line ≡ []
-unopened [] other closed = refl
-unopened (asker ∷ rest) other closed = absurd (cc)
+unopened line other closed = grind (arith, closed)
 
 -- Something is given back: the count falls; which place holds the flag afterwards, and what this place does then, is said by the premises
 given-back : (needs : Needs) → AreNeeds needs → needs.top < 2 ^ count_bits → (places : ℕ) (row : ℕ → ℕ) (standing : ℕ → Place) (state : AbstractState) (me : ℕ)
@@ -158,18 +140,13 @@ given-back needs lawful wide places row standing state me s what left seen tail_
 
 -- a mark and a tail that set a flag, or none
 no-flag : (tail_none flagged : Bool) → (not tail_none && not flagged) ≡ false → (flagged || not tail_none) ≡ flagged
-no-flag true false test = refl
-no-flag false false test = absurd (cc)
-no-flag _ true test = refl
+no-flag tail_none flagged test = grind (arith, test)
 
 sets-flag : (tail_none flagged : Bool) → (not tail_none && not flagged) ≡ true → (tail_none ≡ false) × (flagged ≡ false)
-sets-flag false false test = (refl, refl)
-sets-flag false true test = absurd (cc)
-sets-flag true flagged test = absurd (cc)
+sets-flag tail_none flagged test = (grind (arith, test), grind (arith, test))
 
 no-tail : (tail_none flagged : Bool) → (not tail_none && not flagged) ≡ false → flagged ≡ false → tail_none ≡ true
-no-tail true flagged test clear = refl
-no-tail false _ test clear = absurd (cc)
+no-tail tail_none flagged test clear = grind (arith, test, clear)
 
 -- A call that gives back lowers the count, and works on the line where there are waiters and nobody works on it
 pub step-ReleaseExchange : (what : ReleaseAmount) (seen : Word) → IsStep (ReleaseExchange what seen)
@@ -191,47 +168,35 @@ step-ReleaseExchange what seen needs lawful wide places row standing state me ro
           let word : Word = released needs seen what in
           let word_count : word.count ≡ left = rw known.alone.1.1 refl in
           let after : AbstractState = record state { count = left; unclosed = not (is_empty state.line) || state.unclosed } in
-          elim (cases_Bool (not (seen.tail == 0) && not seen.is_flagged)) [
-            | inl takes ↦
-                let both = sets-flag (seen.tail == 0) seen.is_flagged takes in
-                let nobody : s.holder == 0 ≡ true = not-true (s.holder == 0) (sym flagged ∙ both.1) in
-                let some : is_empty state.line ≡ false = sym empty ∙ both.0 in
-                let less : left ≤ seen.count = left-shrinks needs lawful seen.count what left known.alone.1.1 in
-                record {
-                  events = gave what ∷ [];
-                  last = after;
-                  run = (gave-enabled needs state me what left calm left_now, gave-after needs state me what left left_now);
-                  names = rw same (gave-named what);
-                  inside = omega arith;
-                  stands = rw (same, takes) (given-back needs lawful wide places row standing state me s what left seen known.alone.0 known.alone.2 is known.alone.1.1
+          record {
+            events = gave what ∷ [];
+            last = after;
+            run = (gave-enabled needs state me what left calm left_now, gave-after needs state me what left left_now);
+            names = rw same (both-named what).0;
+            inside = omega arith;
+            stands =
+                elim (cases_Bool (not (seen.tail == 0) && not seen.is_flagged)) [
+                  | inl takes ↦
+                      let both = sets-flag (seen.tail == 0) seen.is_flagged takes in
+                      let nobody : s.holder == 0 ≡ true = not-true (s.holder == 0) (sym flagged ∙ both.1) in
+                      let less : left ≤ seen.count = left-shrinks needs lawful seen.count what left known.alone.1.1 in
+                      rw (same, takes) (given-back needs lawful wide places row standing state me s what left seen known.alone.0 known.alone.2 is known.alone.1.1
                       (BackLoad word word.tail 0) (me + 1) refl (omega (arith, word_count, less, known.ranged)) returning known.alone.3 (λ word. tt) known.showing
                       (sym (number_same (me + 1)))
-                      (λ it. (
-                        whole-work left state.line word tail (omega (arith, word_count)),
-                        s.free nobody,
-                        (tail, some, refl, tt),
-                      ))
+                      (λ it. (whole-work left state.line word tail (omega (arith, word_count)), s.free nobody, (tail, sym empty ∙ both.0, refl, tt)))
                       (λ other apart. apart-holders s.holder me other nobody apart)
                       (rw (both.0, both.1) (sym (ap not (link-some me))))
-                      (λ free. let wrong : true ≡ false = sym free ∙ link-some me in absurd (cc)));
-                }
-            | inr ends ↦
-                record {
-                  events = gave what ∷ [];
-                  last = after;
-                  run = (gave-enabled needs state me what left calm left_now, gave-after needs state me what left left_now);
-                  names = rw same (gave-named what);
-                  inside = omega arith;
-                  stands = rw (same, ends, ended (standing me) back)
+                      (λ free. let wrong : true ≡ false = sym free ∙ link-some me in absurd (cc)))
+                  | inr ends ↦ rw (same, ends, ended (standing me) back)
                       (given-back needs lawful wide places row standing state me s what left seen known.alone.0 known.alone.2 is known.alone.1.1
                       (end_stage back) s.holder (ended-joins back) (ended-ranged needs back) (ended-alone needs (standing me).registration back returning)
                       (ended-apart back ∙ known.alone.3) (λ word. ended-own word back) (ended-showing (s.owed me) (s.answer_value me) back known.showing)
                       (ended-holder back ∙ sym none ∙ s.stages.one me)
                       (λ it. absurd (not-holder needs places row standing state me s none it)) (λ other apart. refl)
                       (no-flag (seen.tail == 0) seen.is_flagged ends ∙ flagged)
-                      (λ free. (sym empty ∙ no-tail (seen.tail == 0) seen.is_flagged ends (flagged ∙ ap not free), free)));
-                }
-          ]
+                      (λ free. (sym empty ∙ no-tail (seen.tail == 0) seen.is_flagged ends (flagged ∙ ap not free), free)))
+                ];
+          }
       | inr differs ↦
           let out = given-outcome needs places row standing state me s none known.showing known.alone.3
           what (forgets needs (main_of row).is_poisoned) (left_from needs (main_of row).count what) refl refl in

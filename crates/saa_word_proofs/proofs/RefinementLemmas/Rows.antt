@@ -1,9 +1,8 @@
 -- What a step writes into a row, and a step that writes nothing.
-use Rattle.std.proofs.Common.{◌≡◌, ℕ, ◌+◌, ◌<◌, ◌≤◌, Bool, true, false, List, Option, ◌==◌, refl, sym, ap, subst, ◌∙◌, arith, inl, inr, ◌^◌}
-use Rattle.std.proofs.lemmas.Bool.{cases_Bool}
+use Rattle.std.proofs.Common.{if◌then◌else◌, Bool, ◌≡◌, ℕ, ◌+◌, ◌<◌, ◌≤◌, true, false, List, Option, ◌==◌, refl, sym, ap, subst, ◌∙◌, arith, ◌^◌}
 use Rattle.std.proofs.lemmas.Bool.Decides.{nat_tests}
 use Rattle.saa_core_spec.specs.Object.{one_if, times}
-use Rattle.saa_core_spec.proofs.Counts.{same_number, times-append}
+use Rattle.saa_core_spec.proofs.Counts.{same_number, number_other, one_if-le, times-append}
 use Rattle.saa_core_words.specs.declared.word.Word.{Word}
 use Rattle.saa_core_words.specs.declared.line_word.LineWord.{LineWord}
 use Rattle.saa_core_words.specs.Words.{count_bits, word_number, word_of, line_word_of}
@@ -23,6 +22,11 @@ use Rattle.saa_word_proofs.specs.StepRefinement.{StepRefines}
 use Rattle.saa_word_proofs.proofs.RefinementLemmas.Lists.{behind-same, each-updated, all-same, updated-same, updated-at, updated-other}
 use Rattle.saa_word_proofs.proofs.RefinementLemmas.Frames.{stages-next}
 
+-- what is so of both ways of a test is so of the one that it takes
+pub either : {A : Type 0} (P : A → Type 0) (test : Bool) (one other : A) → (test ≡ true → P one) → (test ≡ false → P other) → P (if test then one else other)
+either P true one other o t = o refl
+either P false one other o t = t refl
+
 -- A main word that is found as it was seen is what was seen
 pub main-found : (number : ℕ) (seen : Word) → IsSmall seen → seen.tail < 65536 → number == word_number count_bits seen ≡ true → word_of count_bits number ≡ seen
 main-found number seen small tail same =
@@ -30,11 +34,7 @@ main-found number seen small tail same =
 
 -- what a main word is written as is small, and is read again
 pub word-whole : (word : Word) → IsSmall word → word.tail < 65536 → word_number count_bits word < 2 ^ (count_bits + 18)
-word-whole word small tail = omega (arith, small, tail, flag-small word.is_flagged, flag-small word.is_poisoned)
-  where
-    flag-small : (mark : Bool) → one_if mark < 2
-    flag-small true = omega arith
-    flag-small false = omega arith
+word-whole word small tail = omega (arith, small, tail, one_if-le word.is_flagged, one_if-le word.is_poisoned)
 
 -- the count and the tail of a number are within their bits
 pub count-small : (number : ℕ) → (word_of count_bits number).count < 2 ^ count_bits
@@ -53,24 +53,12 @@ line-main row number = all-same (line_of (updated row 0 number)) (line_of row) (
 pub line-at : (row : ℕ → ℕ) (at number : ℕ) → line_of (updated row (at + 1) number) at ≡ line_word_of number
 line-at row at number = ap line_word_of (updated-at row (at + 1) number)
 
-pub line-other : (row : ℕ → ℕ) (at number place : ℕ) → (place ≡ at → ⊥) → line_of (updated row (at + 1) number) place ≡ line_of row place
-line-other row at number place apart =
-    let test : place + 1 == at + 1 ≡ false =
-    elim (cases_Bool (place + 1 == at + 1)) [
-      | inl same ↦ absurd (apart (omega (arith, same_number (place + 1) (at + 1) same)))
-      | inr differs ↦ differs
-    ] in
-    ap line_word_of (updated-other row (at + 1) number (place + 1) test)
-
--- a number at another index is as it was
+-- a number at another index is as it was, and so is another line word
 pub row-other : (row : ℕ → ℕ) (at number other : ℕ) → (other ≡ at → ⊥) → updated row at number other ≡ row other
-row-other row at number other apart =
-    let test : other == at ≡ false =
-    elim (cases_Bool (other == at)) [
-      | inl same ↦ absurd (apart (same_number other at same))
-      | inr differs ↦ differs
-    ] in
-    updated-other row at number other test
+row-other row at number other apart = updated-other row at number other (number_other other at apart)
+
+pub line-other : (row : ℕ → ℕ) (at number place : ℕ) → (place ≡ at → ⊥) → line_of (updated row (at + 1) number) place ≡ line_of row place
+line-other row at number place apart = ap line_word_of (row-other row (at + 1) number (place + 1) (λ is. apart (omega (arith, is))))
 
 -- a place that is registered in the line isn't about to join
 pub own-any : (needs : Needs) (registration : Registration) (back : AfterWalk) (stage : Stage) (word : LineWord)

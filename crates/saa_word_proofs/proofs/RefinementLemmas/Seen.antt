@@ -1,9 +1,8 @@
 -- What a place has seen begins the history, and has all its events.
-use Rattle.std.proofs.Common.{◌≡◌, ℕ, false, ◌==◌, List, [], ◌∷◌, refl, sym, ap, inl, inr}
+use Rattle.std.proofs.Common.{arith, ◌≡◌, ℕ, false, List, [], ◌∷◌, refl, ap, inl, inr}
 use Rattle.std.proofs.lemmas.Bool.{cases_Bool}
 use Rattle.saa_word_steps.specs.declared.event.Event.{Event}
 use Rattle.saa_word_proofs.specs.History.{BeginsWith, has_part, part_of, seen_by}
-use Rattle.saa_word_proofs.proofs.RefinementLemmas.Lists.{neither}
 
 pub begins-seen : (place : ℕ) (history : List (ℕ × Event)) → BeginsWith history (seen_by place history)
 begins-seen place [] = ([], refl)
@@ -16,17 +15,8 @@ begins-seen place (entry ∷ rest) =
 -- a place with no event has no part
 no-part : (place : ℕ) (history : List (ℕ × Event)) → has_part place history ≡ false → part_of place history ≡ []
 no-part place [] none = refl
-no-part place (entry ∷ rest) none =
-    let both = neither (entry.0 == place) (has_part place rest) none in rw both.0 (no-part place rest both.1)
+no-part place (entry ∷ rest) none = grind (arith, none, no-part place rest)
 
 pub part-seen : (place : ℕ) (history : List (ℕ × Event)) → part_of place (seen_by place history) ≡ part_of place history
 part-seen place [] = refl
-part-seen place (entry ∷ rest) =
-    elim (cases_Bool (has_part place (entry ∷ rest))) [
-      | inl some ↦
-          elim (cases_Bool (entry.0 == place)) [
-            | inl mine ↦ rw (some, mine) (ap (λ (l : List Event). entry.1 ∷ l) (part-seen place rest))
-            | inr another ↦ rw (some, another) (part-seen place rest)
-          ]
-      | inr none ↦ rw none (sym (no-part place (entry ∷ rest) none))
-    ]
+part-seen place (entry ∷ rest) = grind (arith, part-seen place rest, no-part place (entry ∷ rest))

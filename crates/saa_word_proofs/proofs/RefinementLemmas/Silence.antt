@@ -1,49 +1,27 @@
 -- A step that waits is no event.
-use Rattle.std.proofs.Common.{◌≡◌, ℕ, ◌^◌, ◌%◌, ◌<◌, true, false, not, ◌||◌, ◌==◌, [], Option, Some, None, refl, sym, ap, subst, ◌∙◌}
-use Rattle.saa_core_words.specs.declared.word.Word.{Word}
-use Rattle.saa_core_words.specs.Words.{count_bits, word_number, word_of, answer_of}
+use Rattle.std.proofs.Common.{◌≡◌, ℕ, ◌^◌, ◌<◌, true, false, [], refl, sym, ap, subst, ◌∙◌, arith}
+use Rattle.saa_core_words.specs.Words.{count_bits}
 use Rattle.saa_word_steps.specs.declared.place.Place.{Place}
-use Rattle.saa_word_steps.specs.declared.place.PollMode.{PollMode}
-use Rattle.saa_word_steps.specs.declared.place.PollMode.TheVariants.{Tries, Awaits, Gives}
 use Rattle.saa_word_steps.specs.declared.place.Stage.{Stage}
-use Rattle.saa_word_steps.specs.declared.place.Stage.TheVariants.{Take, FlagLoad, FlagExchange, PoisonLoad, PoisonExchange}
+use Rattle.saa_word_steps.specs.declared.place.Stage.TheVariants.{ReleaseExchange}
 use Rattle.saa_word_steps.specs.declared.place.Next.{Next}
 use Rattle.saa_word_steps.specs.declared.place.Next.TheVariants.{Waits}
-use Rattle.saa_word_steps.specs.Needs.{Needs, AreNeeds, may_refuse}
+use Rattle.saa_word_steps.specs.Needs.{Needs, AreNeeds}
 use Rattle.saa_word_steps.specs.AbstractState.{AbstractState}
-use Rattle.saa_word_steps.specs.Steps.{word_at, operation_of, next_of, taken_answer, poisoning}
+use Rattle.saa_word_steps.specs.Steps.{word_at, operation_of, next_of}
 use Rattle.saa_word_proofs.specs.Refinement.{Invariant}
 use Rattle.saa_word_proofs.specs.Rows.{updated}
-use Rattle.saa_word_proofs.specs.StepRefinement.{StepRefines, named_at, place_after, poisoning_events, row_after, taken_events}
+use Rattle.saa_word_proofs.specs.StepRefinement.{StepRefines, named_at, place_after, row_after}
 use Rattle.saa_word_proofs.proofs.RefinementLemmas.Lists.{updated-same}
-use Rattle.saa_word_proofs.proofs.RefinementLemmas.Polls.{says_wait, either, on-finished, on-some, goes-on, second-waits, only-stalls-anyone}
+use Rattle.saa_word_proofs.proofs.RefinementLemmas.Polls.{says_wait, goes-on, only-stalls-anyone}
 use Rattle.saa_word_proofs.proofs.RefinementLemmas.Steps.{step-anyone}
 
 -- What it names
 
-unnamed-taking : (needs : Needs) (place : Place) (taking : PollMode) (answer : Option ℕ) → taken_answer needs place taking answer ≡ Waits
-    → taken_events taking answer ≡ []
-unnamed-taking needs place (Gives request) None waits = refl
-unnamed-taking needs place Awaits None waits = refl
-unnamed-taking needs place Tries None waits = absurd (cc)
-unnamed-taking needs place taking (Some value) waits =
-    let wrong : false ≡ true = sym (on-some needs place taking value) ∙ ap says_wait waits in absurd (cc)
-
-unnamed-poisoning : (needs : Needs) (place : Place) (seen : Word) → poisoning needs place seen ≡ Waits → poisoning_events needs seen ≡ []
-unnamed-poisoning needs place seen waits =
-    let owned = second-waits (seen.is_poisoned || not (may_refuse needs seen.count)) _ _ refl waits in
-    rw owned.0 refl
-
 unnamed : (needs : Needs) (me : ℕ) (place : Place) (stage : Stage) (found : ℕ) → next_of needs me place stage found ≡ Waits → named_at needs stage found ≡ []
-unnamed needs me place (Take taking) found waits = unnamed-taking needs place taking (answer_of (found % 65536)) waits
-unnamed needs me place FlagLoad found waits = refl
-unnamed needs me place (FlagExchange seen) found waits = refl
-unnamed needs me place PoisonLoad found waits = unnamed-poisoning needs place (word_of count_bits found) waits
-unnamed needs me place (PoisonExchange seen) found waits =
-    let both = second-waits (found == word_number count_bits seen) _ _ (either (seen.tail == 0) _ _ (on-finished place place.back) refl) waits in
-    rw both.0 (unnamed-poisoning needs place (word_of count_bits found) both.1)
-unnamed needs me place stage found waits =
-    let wrong : false ≡ true = sym (goes-on needs me place stage found refl) ∙ ap says_wait waits in absurd (cc)
+unnamed needs me place (ReleaseExchange what seen) found waits =
+    let wrong : false ≡ true = sym (goes-on needs me place (ReleaseExchange what seen) found refl) ∙ ap says_wait waits in absurd (cc)
+unnamed needs me place stage found waits = grind (arith, waits)
 
 -- What it is
 

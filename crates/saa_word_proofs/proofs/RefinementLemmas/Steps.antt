@@ -1,7 +1,6 @@
 -- Every step of every place keeps that words and places refine the abstract state.
-use Rattle.std.proofs.Common.{◌^◌, ◌≡◌, ℕ, ◌<◌, ◌≤◌, true, false, nat_lt, refl, sym, ap, subst, ◌∙◌, arith, inl, inr}
-use Rattle.std.proofs.lemmas.Bool.{cases_Bool}
-use Rattle.std.proofs.lemmas.Bool.Decides.{nat_tests}
+use Rattle.std.proofs.Common.{◌^◌, ◌≡◌, ℕ, ◌<◌, ◌≤◌, true, false, refl, sym, ap, subst, ◌∙◌, arith, inl, inr}
+use Rattle.std.proofs.lemmas.Bool.{cases_Bool, cases_lt}
 use Rattle.saa_core_words.specs.Words.{count_bits}
 use Rattle.saa_word_steps.specs.declared.place.Place.{Place}
 use Rattle.saa_word_steps.specs.declared.place.Registration.{Registration}
@@ -61,10 +60,9 @@ own-slot needs registration back stage uses never alone = absurd (cc)
 own-here : (needs : Needs) (places : ℕ) (row : ℕ → ℕ) (standing : ℕ → Place) (state : AbstractState) (me : ℕ) (s : Invariant needs places row standing state)
     (stage : Stage) → (standing me).stage ≡ stage → uses_own stage ≡ true → me < places
 own-here needs places row standing state me s stage at uses =
-    elim (cases_Bool (nat_lt me places)) [
-      | inl inside ↦ grind (arith, nat_tests, inside)
-      | inr outside ↦
-          let beyond : places ≤ me = grind (arith, nat_tests, outside) in
+    elim (cases_lt me places) [
+      | inl inside ↦ inside
+      | inr beyond ↦
           s.seats.within me (own-slot needs (standing me).registration (standing me).back stage uses
           (ap joins_line (sym at) ∙ s.seats.beyond me beyond)
           (at-stage needs places row standing state me s stage at).alone)

@@ -91,11 +91,8 @@ newer-line words new line cut uncut at request older others is =
     same place =
         elim (cases_Bool (place == at)) [
           | inl here ↦
-              let there : at ≡ place = sym (same_number place at here) in
-              subst (λ (n : ℕ). ((new n).request ≡ (words n).request) × ((new n).older ≡ (words n).older)) there (request, older)
-          | inr apart ↦
-              let there : new place ≡ words place = others place (apart-by place at apart) in
-              (ap (λ (w : LineWord). w.request) there, ap (λ (w : LineWord). w.older) there)
+              subst (λ (n : ℕ). ((new n).request ≡ (words n).request) × ((new n).older ≡ (words n).older)) (sym (same_number place at here)) (request, older)
+          | inr apart ↦ rw (others place (apart-by place at apart)) (refl, refl)
         ]
 
 -- The holder has written the newer link of the last of the front

@@ -1,5 +1,5 @@
 -- The steps by which a cancel leaves the line: they keep that words and places refine the abstract state.
-use Rattle.std.proofs.Common.{◌^◌, ◌≡◌, ℕ, ◌+◌, ◌<◌, pred, true, false, not, List, [], ◌∷◌, ◌++◌, ◌==◌, if◌then◌else◌, refl, sym, ap, subst, ◌∙◌, arith, inl, inr, append-nil}
+use Rattle.std.proofs.Common.{◌^◌, ◌≡◌, ℕ, ◌+◌, ◌<◌, pred, true, false, not, List, [], ◌∷◌, ◌++◌, ◌==◌, refl, sym, ap, subst, ◌∙◌, arith, inl, inr, append-nil}
 use Rattle.std.proofs.lemmas.Bool.{cases_Bool}
 use Rattle.saa_core_spec.proofs.Counts.{number_same, number_other, same_number}
 use Rattle.saa_core_words.specs.declared.word.Word.{Word}
@@ -12,19 +12,19 @@ use Rattle.saa_word_steps.specs.declared.place.Registration.TheVariants.{Idle}
 use Rattle.saa_word_steps.specs.declared.place.AfterWalk.TheVariants.{Ends as EndsCall}
 use Rattle.saa_word_steps.specs.declared.place.Stage.{Stage}
 use Rattle.saa_word_steps.specs.declared.place.Stage.TheVariants.{Quiet, BackLoad, Forward, LookLoad, Unlink, DropTail}
-use Rattle.saa_word_steps.specs.declared.call.Answer.TheVariants.{Unit as Ended}
 use Rattle.saa_word_steps.specs.declared.place.Next.{Next}
 use Rattle.saa_word_steps.specs.Needs.{Needs}
 use Rattle.saa_word_steps.specs.declared.event.Event.TheVariants.{Cancelled}
 use Rattle.saa_word_steps.specs.AbstractState.{AbstractState, IsRun, IsSettledAt, is_empty}
-use Rattle.saa_word_steps.specs.Steps.{IsRanged, no_line, dropped_word, left_line, done, walking}
+use Rattle.saa_word_steps.specs.Steps.{IsRanged, no_line, dropped_word, left_line}
 use Rattle.saa_word_proofs.specs.Refinement.{newest, IsAhead, is_holder, IsLocallyTrue, IsShowing, Work, IsAdded, IsAt, IsFound, IsHolding, IsMain, IsOwn, gives_up, Invariant}
 use Rattle.saa_word_proofs.specs.Rows.{IsBehind, line_of, main_of, updated}
-use Rattle.saa_word_proofs.specs.StepRefinement.{StepRefines, place_after}
+use Rattle.saa_word_proofs.specs.StepRefinement.{place_after}
 use Rattle.saa_word_proofs.specs.History.{of_place}
-use Rattle.saa_word_proofs.proofs.RefinementLemmas.Lists.{newest-any, newest-last, behind-front, ahead-frame, front-none, front-some}
+use Rattle.saa_word_proofs.proofs.RefinementLemmas.Lists.{empty-nil, newest-any, newest-last, behind-front, ahead-frame, front-none, front-some}
 use Rattle.saa_word_proofs.proofs.RefinementLemmas.Frames.{oldest-stands, work-behind, whole-work}
-use Rattle.saa_word_proofs.proofs.RefinementLemmas.Rows.{IsOwnStep, IsAtStage, at-stage, main-found, count-small, line-main, line-at, line-other, row-other, moved, loaded}
+use Rattle.saa_word_proofs.proofs.RefinementLemmas.Rows.{either, IsOwnStep, at-stage, main-found, count-small, line-main, line-at, line-other, row-other, moved, loaded}
+use Rattle.saa_word_proofs.proofs.RefinementLemmas.Flagging.{not-true}
 use Rattle.saa_word_proofs.proofs.RefinementLemmas.Holders.{some-behind, some-append, main-now, calm-held, holding-some, never-barren}
 use Rattle.saa_word_proofs.proofs.RefinementLemmas.Linking.{flag-held, in-line, line-room, IsLooked, looked, linked-all}
 use Rattle.saa_word_proofs.proofs.RefinementLemmas.Granting.{in-no, newest-rest, holder-none, nobody}
@@ -187,7 +187,7 @@ dropping needs places row standing state me s seen older request before stage ne
     (sym (ap (λ (w : Word). w.count) found) ∙ s.main.count) is (ap not flag)
     (sym (ap (λ (w : Word). w.is_poisoned) found) ∙ s.main.poison) (never-barren needs (left state before) calm) s.main.bounded
     (λ free. ap (λ (l : List (ℕ × ℕ)). not (is_empty l)) (front-none before older is (flag ∙ free)))
-    (λ closed. subst (λ (l : List (ℕ × ℕ)). IsSettledAt needs state.count l) (sym (nobody-left before closed)) tt) in
+    (λ closed. subst (λ (l : List (ℕ × ℕ)). IsSettledAt needs state.count l) (sym (empty-nil before (not-true (is_empty before) closed))) tt) in
     subst (λ (l : List (ℕ × ℕ)).
     Invariant needs places (updated row 0 number) (updated standing me (record (left_line (standing me)) { stage = stage })) (left state l)) (sym whole)
     (leaving needs places row standing state me s 0 number request stage before [] next here (omega arith) mine parts
@@ -197,54 +197,44 @@ dropping needs places row standing state me s seen older request before stage ne
     ranged alone stays (own (line_of (updated row 0 number) me)) showing holder
     (λ keeps. rw (line-main row number) (subst (λ (l : List (ℕ × ℕ)). IsHolding needs (line_of row) me state.count l [] stage) whole (holding keeps)))
     others)
-  where
-    nobody-left : (line : List (ℕ × ℕ)) → not (is_empty line) ≡ false → line ≡ []
-    nobody-left [] closed = refl
-    nobody-left (asker ∷ rest) closed = absurd (cc)
 
--- the exchange succeeds: the holder was the newest, and nobody is behind it
-dropped-step : (needs : Needs) (places : ℕ) (row : ℕ → ℕ) (standing : ℕ → Place) (state : AbstractState) (me : ℕ) → me < places
-    → (s : Invariant needs places row standing state) → (seen : Word) (older : ℕ) → row 0 == word_number count_bits seen ≡ true → s.holder ≡ me + 1
-    → IsAtStage needs places row standing state me s (DropTail seen older)
-    → StepRefines needs places row standing state me (DropTail seen older)
-dropped-step needs places row standing state me here s seen older same mine known =
+-- Where no waiter is behind the holder, the tail is the place before it; where another word stands there, the holder looks for itself again from that
+pub step-DropTail : (seen : Word) (older : ℕ) → IsOwnStep (DropTail seen older)
+step-DropTail seen older needs lawful wide places row standing state me room here s at =
+    let known = at-stage needs places row standing state me s _ at in
+    let mine = known.mine refl in
     let knows = known.holding mine in
-    let work : Work state.count state.line seen = knows.0 in
-    let before : List (ℕ × ℕ) = knows.2.0 in
-    let request : ℕ = knows.2.1 in
-    let found : main_of row ≡ seen = main-found (row 0) seen known.ranged known.alone.1 same in
-    let parts : state.line ≡ before ++ (me, request) ∷ work.joined =
-    found-parts me state.count older state.line seen work knows.2 ∙ ap (λ (l : List (ℕ × ℕ)). before ++ (me, request) ∷ (l ++ work.joined)) knows.3 in
-    let once : times me state.line ≡ 1 = found-once places standing state me request before work.joined s.seats parts in
-    let tail : seen.tail ≡ me + 1 =
-    work.tail ∙ ap (λ (l : List (ℕ × ℕ)). newest 0 (work.front ++ l)) knows.3 ∙ ap (newest 0) (append-nil work.front ∙ knows.2.2)
-    ∙ newest-last 0 before (me, request) in
-    let alone_there : work.joined ≡ [] =
-    alone-behind me request before work.joined (ap (λ (l : List (ℕ × ℕ)). times me l) (sym parts) ∙ once)
-    (ap (newest 0) (sym parts) ∙ sym s.main.tail ∙ ap (λ (w : Word). w.tail) found ∙ tail) in
-    let number : ℕ = word_number count_bits (dropped_word seen older) in
-    let after : Next = if older == 0 then done (left_line (standing me)) Ended else walking (left_line (standing me)) (dropped_word seen older) in
-    let line : state.line ≡ before ++ (me, request) ∷ [] = parts ∙ ap (λ (l : List (ℕ × ℕ)). before ++ (me, request) ∷ l) alone_there in
-    record {
-      events = Cancelled ∷ [];
-      last = left state before;
-      run = subst (λ (l : List (ℕ × ℕ)). IsRun needs state (of_place me (Cancelled ∷ [])) (left state l)) (append-nil before)
-          (left-run needs state me request before [] line once);
-      names = rw same refl;
-      inside = omega arith;
-      stands =
-          rw same
-          (elim (cases_Bool (older == 0)) [
-            | inl first ↦
-                subst (λ (n : Next). Invariant needs places (updated row 0 number) (updated standing me (place_after (standing me) n)) (left state before))
-                (let is : done (left_line (standing me)) Ended ≡ after = rw first refl in is)
-                (dropping needs places row standing state me s seen older request before Quiet 0 here mine knows.1 found line knows.2.3
+    elim (cases_Bool (row 0 == word_number count_bits seen)) [
+      | inl same ↦
+          let work : Work state.count state.line seen = knows.0 in
+          let before : List (ℕ × ℕ) = knows.2.0 in
+          let request : ℕ = knows.2.1 in
+          let found : main_of row ≡ seen = main-found (row 0) seen known.ranged known.alone.1 same in
+          let parts : state.line ≡ before ++ (me, request) ∷ work.joined =
+          found-parts me state.count older state.line seen work knows.2 ∙ ap (λ (l : List (ℕ × ℕ)). before ++ (me, request) ∷ (l ++ work.joined)) knows.3 in
+          let once : times me state.line ≡ 1 = found-once places standing state me request before work.joined s.seats parts in
+          let tail : seen.tail ≡ me + 1 =
+          work.tail ∙ ap (λ (l : List (ℕ × ℕ)). newest 0 (work.front ++ l)) knows.3 ∙ ap (newest 0) (append-nil work.front ∙ knows.2.2)
+          ∙ newest-last 0 before (me, request) in
+          let alone_there : work.joined ≡ [] =
+          alone-behind me request before work.joined (ap (λ (l : List (ℕ × ℕ)). times me l) (sym parts) ∙ once)
+          (ap (newest 0) (sym parts) ∙ sym s.main.tail ∙ ap (λ (w : Word). w.tail) found ∙ tail) in
+          let number : ℕ = word_number count_bits (dropped_word seen older) in
+          let line : state.line ≡ before ++ (me, request) ∷ [] = parts ∙ ap (λ (l : List (ℕ × ℕ)). before ++ (me, request) ∷ l) alone_there in
+          record {
+            events = Cancelled ∷ [];
+            last = left state before;
+            run = subst (λ (l : List (ℕ × ℕ)). IsRun needs state (of_place me (Cancelled ∷ [])) (left state l)) (append-nil before)
+                (left-run needs state me request before [] line once);
+            names = rw same refl;
+            inside = omega arith;
+            stands =
+                rw same
+                (either (λ (n : Next). Invariant needs places (updated row 0 number) (updated standing me (place_after (standing me) n)) (left state before)) (older == 0) _ _
+                (λ first. dropping needs places row standing state me s seen older request before Quiet 0 here mine knows.1 found line knows.2.3
                 tt tt refl (λ word. tt) known.showing (sym (nobody me)) (λ is. absurd (omega (arith, is)))
                 (λ other apart. holder-none s.holder me other mine apart) first)
-            | inr others ↦
-                subst (λ (n : Next). Invariant needs places (updated row 0 number) (updated standing me (place_after (standing me) n)) (left state before))
-                (let is : walking (left_line (standing me)) (dropped_word seen older) ≡ after = rw others refl in is)
-                (dropping needs places row standing state me s seen older request before (BackLoad (dropped_word seen older) older 0) s.holder
+                (λ others. dropping needs places row standing state me s seen older request before (BackLoad (dropped_word seen older) older 0) s.holder
                 here mine knows.1 found line knows.2.3
                 known.ranged tt refl (λ word. tt) known.showing (sym (ap (λ (n : ℕ). n == me + 1) mine ∙ number_same (me + 1)))
                 (λ keeps. (
@@ -252,35 +242,19 @@ dropped-step needs places row standing state me here s seen older same mine know
                   refl,
                   (knows.2.3, front-some before older knows.2.3 others, refl, tt),
                 ))
-                (λ other apart. refl) (others ∙ sym (number_other s.holder 0 (λ is. omega (arith, is, mine)))))
-          ]);
-    }
-
--- the exchange fails: another word stands there, and the holder looks for itself again from that
-looks-again : (needs : Needs) (places : ℕ) (row : ℕ → ℕ) (standing : ℕ → Place) (state : AbstractState) (me : ℕ) → me < places
-    → (s : Invariant needs places row standing state) → (seen : Word) (older : ℕ) → (standing me).stage ≡ DropTail seen older
-    → row 0 == word_number count_bits seen ≡ false → s.holder ≡ me + 1 → IsAtStage needs places row standing state me s (DropTail seen older)
-    → StepRefines needs places row standing state me (DropTail seen older)
-looks-again needs places row standing state me here s seen older at differs mine known =
-    let knows = known.holding mine in
-    let next : Place = record (standing me) { stage = LookLoad (main_of row) (main_of row).tail 0 no_line } in
-    let some : is_empty state.line ≡ false = holding-some needs (line_of row) me state.count state.line s.cut (DropTail seen older) knows in
-    silent (rw differs refl) (omega arith) (rw differs (loaded needs places row (updated standing me next) state 0
-    (moved needs places row standing state me s next (λ out. absurd (omega (arith, out, here))) refl (count-small (row 0)) known.alone.0 (λ gives. absurd (cc)) tt known.showing (ap is_holder (sym at))
-    (λ is. (
-      whole-work state.count state.line _ s.main.tail (omega (arith, s.main.count)),
-      knows.1,
-      (s.main.tail, some, refl, tt),
-      (refl, refl),
-      λ none. absurd (cc),
-    )))))
-
--- Where no waiter is behind the holder, the tail is the place before it
-pub step-DropTail : (seen : Word) (older : ℕ) → IsOwnStep (DropTail seen older)
-step-DropTail seen older needs lawful wide places row standing state me room here s at =
-    let known = at-stage needs places row standing state me s _ at in
-    let mine = known.mine refl in
-    elim (cases_Bool (row 0 == word_number count_bits seen)) [
-      | inl same ↦ dropped-step needs places row standing state me here s seen older same mine known
-      | inr differs ↦ looks-again needs places row standing state me here s seen older at differs mine known
+                (λ other apart. refl) (others ∙ sym (number_other s.holder 0 (λ is. omega (arith, is, mine))))));
+          }
+      | inr differs ↦
+          let next : Place = record (standing me) { stage = LookLoad (main_of row) (main_of row).tail 0 no_line } in
+          let some : is_empty state.line ≡ false = holding-some needs (line_of row) me state.count state.line s.cut (DropTail seen older) knows in
+          silent (rw differs refl) (omega arith) (rw differs (loaded needs places row (updated standing me next) state 0
+          (moved needs places row standing state me s next (λ out. absurd (omega (arith, out, here)))
+          refl (count-small (row 0)) known.alone.0 (λ gives. absurd (cc)) tt known.showing (ap is_holder (sym at))
+          (λ is. (
+            whole-work state.count state.line _ s.main.tail (omega (arith, s.main.count)),
+            knows.1,
+            (s.main.tail, some, refl, tt),
+            (refl, refl),
+            λ none. absurd (cc),
+          )))))
     ]

@@ -19,7 +19,7 @@ use Rattle.saa_word_proofs.proofs.RefinementLemmas.Lists.{front-append, takes-ap
 use Rattle.saa_word_proofs.proofs.RefinementLemmas.Frames.{newest-stands, oldest-stands, work-front, work-behind}
 use Rattle.saa_word_proofs.proofs.RefinementLemmas.Rows.{IsStep, at-stage, moved, loaded}
 use Rattle.saa_word_proofs.proofs.RefinementLemmas.Storing.{IsStored, stored}
-use Rattle.saa_word_proofs.proofs.RefinementLemmas.Linking.{apart-by, in-line, relinked, IsLooked, looked, linked-all, tail-room}
+use Rattle.saa_word_proofs.proofs.RefinementLemmas.Linking.{in-line, relinked, IsLooked, looked, linked-all, tail-room}
 use Rattle.saa_word_proofs.proofs.RefinementLemmas.Outcomes.{silent}
 
 -- The line word of the last of the front is loaded, before it is linked to those behind it
@@ -76,11 +76,7 @@ passed needs words held line seen current count work added look fits differs =
     ap (λ (l : List (ℕ × ℕ)). work.front ++ l) look.behind ∙ sym (append_assoc work.front (look.asker ∷ []) look.rest) in
     let here : fits_count needs (seen.count + takes_of needs work.front) look.asker.1 ≡ true =
     ap (λ (n : ℕ). fits_count needs n look.asker.1) (sym added.1) ∙ ap (λ (n : ℕ). fits_count needs count n) (sym look.request) ∙ fits in
-    let some : is_empty look.rest ≡ false =
-    elim (cases_Bool (is_empty look.rest)) [
-      | inl none ↦ absurd (apart-by current seen.tail differs (sym (look.last none)))
-      | inr there ↦ there
-    ] in (
+    let some : is_empty look.rest ≡ false = grind (arith, differs, look.last) in (
       record {
         front = work.front ++ look.asker ∷ [];
         behind = look.rest;

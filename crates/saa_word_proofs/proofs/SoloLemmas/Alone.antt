@@ -43,12 +43,11 @@ use Rattle.saa_word_proofs.specs.Rows.{updated}
 use Rattle.saa_word_proofs.specs.StepRefinement.{place_after}
 use Rattle.saa_word_proofs.proofs.RefinementLemmas.Starting.{starts, call-begun}
 use Rattle.saa_word_proofs.proofs.SoloLemmas.Along.{Course, along, moves-first}
-use Rattle.saa_word_proofs.proofs.SoloLemmas.Asks.{end-register, end-try, mode-read, register-refused, registered_by, try-refused}
+use Rattle.saa_word_proofs.proofs.SoloLemmas.Asks.{end-poll, polled_by, end-register, end-try, mode-read, register-refused, registered_by, try-refused}
 use Rattle.saa_word_proofs.proofs.SoloLemmas.Endings.{Ended, registered-at}
 use Rattle.saa_word_proofs.proofs.SoloLemmas.Givings.{drop-none, dropped_by, end-cancel-once, end-cancel-slot, end-release, given_back_by, giving-nothing}
 use Rattle.saa_word_proofs.proofs.SoloLemmas.Locks.{end-clear, end-downgrade, end-poison_lock, end-read, end-shut, reads-available, reads-free, reads-locked, reads-poisoned, reads-shared, reads-shut}
 use Rattle.saa_word_proofs.proofs.SoloLemmas.Mirroring.{entry-is, idle-entry, same, with_registration}
-use Rattle.saa_word_proofs.proofs.SoloLemmas.PollsAlone.{end-poll, polled_by}
 
 -- the needs of any rules are those of a form
 pub rules-lawful : (rules : Rules) → AreNeeds (needs_of rules)
@@ -56,11 +55,7 @@ rules-lawful (Permits bound) = permits-lawful bound
 rules-lawful Modes = locks-lawful
 
 quiet-put : (first : ℕ → Place) (me : ℕ) (place : Place) → PlacesAreQuiescent first → place.stage ≡ Quiet → PlacesAreQuiescent (updated first me place)
-quiet-put first me place quiet is other =
-    elim (cases_Bool (other == me)) [
-      | inl same ↦ rw same is
-      | inr apart ↦ rw apart (quiet other)
-    ]
+quiet-put first me place quiet is other = grind (arith, is, quiet other)
 
 -- What a call is of the sequential object, by how it starts: as that has left it, it represents the end, and it has answered so
 module _ {rules : Rules} {places me : ℕ} {now : Configuration} {s : Object} (b : Begins rules places me now s) where
@@ -100,8 +95,7 @@ module _ {rules : Rules} {places me : ℕ} {now : Configuration} {s : Object} (b
     where
       idle-is : (registration : Registration) → is_idle registration ≡ true → registration ≡ Idle
       idle-is Idle idle = refl
-      idle-is (AnsweredAtOnce value request) idle = absurd (cc)
-      idle-is (Queued request) idle = absurd (cc)
+      idle-is _ idle = absurd (cc)
 
   -- polls: only who joined the line has steps to make
   polls : (tries : Bool) (taking : PollMode) (registration : Registration) → (now.standing me).registration ≡ registration
@@ -202,10 +196,12 @@ agrees-from Modes {me = me} {now = now} b is_sync Cancel taken = cancels b is_sy
 agrees-from Modes b is_sync _ taken = absurd (cc)
 
 -- A call that moves alone from a moment when no place is in a call is the call of the sequential object
-pub alone : (rules : Rules) (places me : ℕ) (is_sync : Bool) (call : WordCall) (now : Configuration) (s : Object) (b : Begins rules places me now s) (steps : ℕ) (answer : Answer) (last : Configuration)
+pub alone : (rules : Rules) (places me : ℕ) (is_sync : Bool) (call : WordCall) (now : Configuration) (s : Object)
+    (b : Begins rules places me now s) (steps : ℕ) (answer : Answer) (last : Configuration)
     → is_taken (needs_of rules).is_lock call ≡ true → IsCalledAlone (needs_of rules) places me call steps now answer last
     → Agrees (needs_of rules) places me is_sync call s answer last
-alone rules places me is_sync call now s b steps answer last taken h = by-start (started (needs_of rules) (now.standing me) call) refl (agrees-from rules b is_sync call taken) h
+alone rules places me is_sync call now s b steps answer last taken h =
+    by-start (started (needs_of rules) (now.standing me) call) refl (agrees-from rules b is_sync call taken) h
   where
     by-start : (next : Next) → started (needs_of rules) (now.standing me) call ≡ next
         → AgreesFrom b (called (needs_of rules).is_lock me is_sync call s) (asked_by call) (IsAnswered (needs_of rules) call (now.standing me).registration) next

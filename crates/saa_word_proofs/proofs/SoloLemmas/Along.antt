@@ -1,6 +1,5 @@
 -- A call that moves alone, from its start to its last step: its events, its answer and the registration that it leaves.
-use Rattle.std.proofs.Common.{◌^◌, ◌≡◌, ◌⊎◌, ℕ, zero, suc, ◌<◌, List, [], ◌++◌, ◌==◌, Option, true, refl, sym, ap, subst, ◌∙◌, inl, inr}
-use Rattle.std.proofs.lemmas.Bool.{cases_Bool}
+use Rattle.std.proofs.Common.{◌^◌, ◌≡◌, ◌⊎◌, ℕ, zero, suc, ◌<◌, List, [], ◌++◌, Option, true, refl, sym, ap, subst, ◌∙◌, inl, inr, arith}
 use Rattle.saa_core_words.specs.Words.{count_bits}
 use Rattle.saa_word_steps.specs.declared.place.Ask.{Ask}
 use Rattle.saa_word_steps.specs.declared.place.Place.{Place}
@@ -31,11 +30,7 @@ use Rattle.saa_word_proofs.proofs.SoloLemmas.Paths.{left-append, left-next}
 
 updated-twice : {A : Type 0} (old : ℕ → A) (at : ℕ) (one two : A) → updated (updated old at one) at two ≡ updated old at two
 updated-twice old at one two =
-    all-same (updated (updated old at one) at two) (updated old at two) (λ other.
-    elim (cases_Bool (other == at)) [
-      | inl same ↦ rw same refl
-      | inr apart ↦ rw apart refl
-    ])
+    all-same (updated (updated old at one) at two) (updated old at two) (λ other. grind arith)
 
 -- A call of a place that asks so moves alone since a state: behind its start the place was registered as `was`, and what the answers of its events
 -- name says what it is registered as now
@@ -52,7 +47,8 @@ pub record Moves (needs : Needs) (places me : ℕ) (call : WordCall) (registered
   pub course : Course needs places me (asked_by call) was start first now
   pub under : IsUnder needs call registered (now.standing me).back (now.standing me).stage course.names
 
-pub record Arrives (needs : Needs) (places me : ℕ) (call : WordCall) (registered was : Registration) (start : AbstractState) (first : ℕ → Place) (answer : Answer) (last : Configuration) : Type 0 where
+pub record Arrives (needs : Needs) (places me : ℕ) (call : WordCall) (registered was : Registration) (start : AbstractState) (first : ℕ → Place)
+    (answer : Answer) (last : Configuration) : Type 0 where
   pub course : Course needs places me (asked_by call) was start first last
   pub answered : IsAnswered needs call registered course.names answer
   pub quiet : (last.standing me).stage ≡ Quiet
@@ -65,9 +61,7 @@ going-or-done Waits goes done h = absurd h
 going-or-done (Done place said) goes done h = inr (place, said, refl, h)
 
 left-behind : (place : Place) (now : Registration) (next : Next) → IsLeft place.registration now next → (place_after place next).registration ≡ now
-left-behind place now (Going next) left = left
-left-behind place now Waits left = left
-left-behind place now (Done next answer) left = left.0
+left-behind place now _ left = grind (arith, left)
 
 -- behind a start that isn't the end
 pub moves-first : {needs : Needs} {places me : ℕ} {now : Configuration} {state : AbstractState} → needs.top < 2 ^ count_bits → Invariant needs places now.row now.standing state

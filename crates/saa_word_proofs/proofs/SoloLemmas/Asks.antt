@@ -1,7 +1,7 @@
--- The sequential object beside a try and a registration.
-use Rattle.std.proofs.Common.{◌≡◌, ℕ, zero, suc, ◌+◌, ◌<◌, ◌≤◌, Bool, true, false, not, ◌&&◌, ◌||◌, List, [], ◌∷◌, ◌++◌, length, ◌==◌, nat_lt, if◌then◌else◌, Option, Some, None, Result, Ok, refl, sym, ap, ◌∙◌, arith}
+-- The sequential object beside a try, a registration and a poll.
+use Rattle.std.proofs.Common.{◌≡◌, ℕ, zero, suc, ◌<◌, ◌≤◌, Bool, true, false, not, ◌&&◌, ◌||◌, List, [], ◌∷◌, ◌++◌, length, ◌==◌, nat_lt, if◌then◌else◌, Option, Some, None, Result, Ok, refl, sym, ap, ◌∙◌, arith, Err, is_some}
 use Rattle.std.proofs.lemmas.Bool.Decides.{nat_tests}
-use Rattle.std.proofs.Math.Bool.{and-false}
+use Rattle.std.proofs.Math.Bool.{and-false, or-false}
 use Rattle.saa_core_spec.specs.declared.lock.Mode.{Mode}
 use Rattle.saa_core_spec.specs.declared.lock.Mode.TheVariants.{Exclusive, Shared, WaitExclusive, WaitShared}
 use Rattle.saa_core_spec.specs.declared.request.Full.{Full}
@@ -16,20 +16,26 @@ use Rattle.saa_word_steps.specs.declared.rules.Rules.TheVariants.{Permits, Modes
 use Rattle.saa_word_steps.specs.declared.place.Registration.{Registration}
 use Rattle.saa_word_steps.specs.declared.place.Registration.TheVariants.{Idle as IsIdle, AnsweredAtOnce, Queued}
 use Rattle.saa_word_steps.specs.declared.call.Answer.{Answer}
-use Rattle.saa_word_steps.specs.declared.call.Answer.TheVariants.{Bool as Says, Tried}
+use Rattle.saa_word_steps.specs.declared.call.Answer.TheVariants.{Bool as Says, Tried, Taken}
 use Rattle.saa_word_steps.specs.Needs.{Needs, fits_count, needs_of}
 use Rattle.saa_word_steps.specs.declared.event.Event.{Event}
-use Rattle.saa_word_steps.specs.declared.event.Event.TheVariants.{Acquired, Refused, Joined, AskedPoisoned}
-use Rattle.saa_word_steps.specs.AbstractState.{IsEnabled, after_event, is_empty, must_wait}
-use Rattle.saa_word_steps.specs.Readings.{is_idle as is_free, mode_number, refusing_answer, tried_answer}
+use Rattle.saa_word_steps.specs.declared.event.Event.TheVariants.{Acquired, Refused, Joined, AskedPoisoned, AnswerTaken, NotReady}
+use Rattle.saa_word_steps.specs.AbstractState.{IsEnabled, after_event, is_empty, must_wait, is_in, with_answer}
+use Rattle.saa_word_steps.specs.Readings.{is_idle as is_free, mode_number, tried_answer}
 use Rattle.saa_word_proofs.specs.Agrees.{Begins}
 use Rattle.saa_word_proofs.specs.Alone.{Configuration, PlacesAreQuiescent}
-use Rattle.saa_word_proofs.specs.Calls.{ask_named}
+use Rattle.saa_word_proofs.specs.Calls.{ask_named, poll_named}
 use Rattle.saa_word_proofs.specs.Represents.{Represents, entry_of, held_at, registering_says, waiters}
 use Rattle.saa_word_proofs.proofs.SoloLemmas.Along.{Course}
 use Rattle.saa_word_proofs.proofs.SoloLemmas.Endings.{Ended, both-true, named-if, one-event}
 use Rattle.saa_word_proofs.proofs.SoloLemmas.HeldAt.{waiters-append, plus-at, asks-at, answer-at, held-calm, held-poisoned, is-poisoned, refusing-answers, refusing-unfit}
-use Rattle.saa_word_proofs.proofs.SoloLemmas.Mirroring.{entry-is, new-entry, same, same-entries, quiescent, with_registration}
+use Rattle.saa_word_proofs.proofs.SoloLemmas.Mirroring.{entry-is, new-entry, same, same-entries, quiescent, with_registration, idle-entry, shown-slot, slot-is, taken-other, waiting-entry}
+use Rattle.saa_core_spec.specs.declared.polling.Error.{Error}
+use Rattle.saa_core_spec.specs.declared.polling.Error.TheVariants.{NotReady as IsNotReady}
+use Rattle.saa_core_spec.specs.declared.polling.How.TheVariants.{Try as TriesHow}
+use Rattle.saa_core_spec.specs.Polling.{polled, polled_of}
+use Rattle.saa_core_spec.specs.Values.{lock_value}
+use Rattle.saa_word_steps.specs.declared.place.Ask.{Ask}
 
 -- Grants at once
 
@@ -48,9 +54,7 @@ module _ {rules : Rules} {places me : ℕ} {now : Configuration} {s : Object} (b
       (λ i. nobody i && fitting i) ∙ either (is_empty b.state.line) (fits_count needs b.state.count request)
     where
       either : (nobody fitting : Bool) → (nobody && fitting) ≡ not (not nobody || not fitting)
-      either true true = refl
-      either true false = refl
-      either false fitting = refl
+      either nobody fitting = grind arith
 
   -- a poisoned lock grants nothing, nor does a shut semaphore
   poisoned-test : b.state.poisoned ≡ true → is_granted_at_once s ((needs_of rules).read request) ≡ false
@@ -85,12 +89,7 @@ abbrev pub tried_by : (is_lock : Bool) → Object → After Bool → After Answe
 tried_by is_lock s after = record { state = after.state; reply = try_says is_lock after.reply (is_poisoned s.held) }
 
 says-granted : (is_lock is_poison : Bool) → try_says is_lock true is_poison ≡ (if is_lock then Tried (try_answer true false) else Says true)
-says-granted true is_poison = refl
-says-granted false is_poison = refl
-
-says-refused : (is_lock is_poison : Bool) → try_says is_lock false is_poison ≡ (if is_lock then Tried (try_answer false is_poison) else Says false)
-says-refused true is_poison = refl
-says-refused false is_poison = refl
+says-granted is_lock is_poison = grind arith
 
 -- a try that isn't granted changes nothing
 pub try-refused : {rules : Rules} {places me : ℕ} {now : Configuration} {s : Object} (b : Begins rules places me now s) (request : ℕ) (is_poison : Bool)
@@ -148,12 +147,8 @@ module _ {rules : Rules} {places me : ℕ} {now : Configuration} {s : Object} (b
       one-event b c over (tried_by needs.is_lock s (tried s (needs.read request))) answer AskedPoisoned names (quiescent b).closed (quiescent b).paid
       (λ poisoned.
       let refused = try-refused b request true poisoned (λ calm. absurd (cc)) in
-      let said : refusing_answer needs ≡ answer = cc in
-      (refused.0, refused.1, refused.2, refused.3 ∙ said))
-  end-try answer (Joined asked) names says =
-      let both = named-if ((asked == request) && false) (Says true) answer says in
-      let wrong : false ≡ true = (both-true (asked == request) false both.0).1 in absurd (cc)
-  end-try answer _ names says = absurd (cc)
+      (refused.0, refused.1, refused.2, refused.3 ∙ cc))
+  end-try answer _ names says = absurd (grind (arith, says))
 
 -- Registrations
 
@@ -181,10 +176,8 @@ slots-room (entry ∷ book) (suc place) within free = omega (arith, slots-room b
 -- it is of a place that isn't idle
 busy-entry : (needs : Needs) (registration : Registration) (shown : Option ℕ) (is_sync : Bool)
     → is_idle (entry_of needs registration shown is_sync) ≡ is_free registration
-busy-entry needs IsIdle shown is_sync = refl
-busy-entry needs (AnsweredAtOnce value request) shown is_sync = refl
-busy-entry needs (Queued request) None is_sync = refl
-busy-entry needs (Queued request) (Some value) is_sync = refl
+busy-entry needs _ None is_sync = grind arith
+busy-entry needs _ (Some value) is_sync = grind arith
 
 module _ {rules : Rules} {places me : ℕ} {now : Configuration} {s : Object} (b : Begins rules places me now s) (is_sync : Bool) (request : ℕ) where
   -- there is room for a place that is idle
@@ -243,15 +236,14 @@ module _ {rules : Rules} {places me : ℕ} {now : Configuration} {s : Object} (b
   end-register answer AskedPoisoned names says =
       let needs : Needs = needs_of rules in
       one-event b c over (registered_by (registered s me (needs.read request) is_sync)) answer AskedPoisoned names (quiescent b).closed (quiescent b).paid
-      (λ poisoned.
-      let said : Says true ≡ answer = cc in (
+      (λ poisoned. (
         registered_by (record { state = with_entry s me (Answered 2 (needs.read request) is_sync false); reply = Ok true }),
         ap registered_by (answered-now s.held 2
             (ap (λ (h : Held). answer_when s h (needs.read request)) (b.mirrors.held ∙ held-poisoned needs b.state poisoned)
             ∙ refusing-answers needs s b.state.count (needs.read request))),
         new-entry b b.state s.held s.line (Answered 2 (needs.read request) is_sync false) (AnsweredAtOnce 2 request) is_sync b.mirrors.held b.mirrors.line
             (λ other apart. refl) refl,
-        said,
+        cc,
       ))
   end-register answer (Joined asked) names says =
       let needs : Needs = needs_of rules in
@@ -271,7 +263,39 @@ module _ {rules : Rules} {places me : ℕ} {now : Configuration} {s : Object} (b
             (λ other apart. refl) (ap (λ (a : Option ℕ). entry_of needs (Queued request) a is_sync) (sym allowed.4)),
         both.1,
       ))
-  end-register answer (Refused asked) names says =
-      let both = named-if ((asked == request) && false) (tried_answer (needs_of rules) false) answer says in
-      let wrong : false ≡ true = (both-true (asked == request) false both.0).1 in absurd (cc)
-  end-register answer _ names says = absurd (cc)
+  end-register answer _ names says = absurd (grind (arith, says))
+
+-- Polls
+
+-- what a poll answers
+abbrev pub polled_by : After (Result ℕ Error) → After Answer
+polled_by after = record { state = after.state; reply = Taken (lock_value after.reply) }
+
+module _ {rules : Rules} {places me : ℕ} {now : Configuration} {s : Object} (b : Begins rules places me now s) {asks : Option Ask} {last : Configuration}
+    (c : Course (needs_of rules) places me asks (now.standing me).registration b.state now.standing last) (over : PlacesAreQuiescent last.standing) where
+  -- it takes an answer, or finds that there is none yet
+  pub end-poll : (tries : Bool) (answer : Answer) (event : Event) → c.names ≡ event ∷ [] → poll_named tries event ≡ Some answer
+      → Ended b c over (polled_by (polled s me TriesHow)) answer
+  end-poll tries answer (AnswerTaken value) names says =
+      one-event b c over (polled_by (polled s me TriesHow)) answer (AnswerTaken value) names (quiescent b).closed (quiescent b).paid
+      (λ shown.
+      let slot = slot-is (now.standing me).registration (shown-slot b.stands.seats me value shown) in
+      let entry = entry-is b (Queued slot.0) (Some value) slot.1 shown in (
+        polled_by (record { state = with_entry s me Idle; reply = Ok value }),
+        ap (λ (e : Entry). polled_by (polled_of s me TriesHow e)) entry.1,
+        idle-entry b (with_answer me None b.state.shown) (taken-other me None b.state.shown),
+        cc,
+      ))
+  end-poll true answer NotReady names says =
+      one-event b c over (polled_by (polled s me TriesHow)) answer NotReady names (quiescent b).closed (quiescent b).paid
+      (λ allowed.
+      let there : is_in me b.state.line ≡ true =
+      sym (or-false (is_in me b.state.line)) ∙ ap (λ (a : Option ℕ). is_in me b.state.line || is_some a) (sym ((quiescent b).paid me)) ∙ allowed in
+      let entry = waiting-entry (needs_of rules) places me now.standing b.state s b.mirrors b.stands.seats b.here there in (
+        polled_by (record { state = s; reply = Err IsNotReady }),
+        ap (λ (e : Entry). polled_by (polled_of s me TriesHow e)) entry.2,
+        same b,
+        cc,
+      ))
+  end-poll false answer NotReady names says = absurd (cc)
+  end-poll tries answer _ names says = absurd (cc)

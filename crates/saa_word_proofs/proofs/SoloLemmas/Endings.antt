@@ -1,5 +1,5 @@
 -- A call that moved alone is done: it has named an event, and the line was settled behind it. The sequential object beside its end.
-use Rattle.std.proofs.Common.{◌≡◌, ℕ, ◌+◌, ◌<◌, ◌≤◌, Bool, true, false, ◌||◌, ◌&&◌, List, [], ◌∷◌, ◌++◌, length, take, drop, ◌==◌, if◌then◌else◌, Option, Some, None, refl, sym, ap, subst, ◌∙◌, arith, inl, inr}
+use Rattle.std.proofs.Common.{◌≡◌, ℕ, ◌<◌, ◌≤◌, Bool, true, false, ◌||◌, ◌&&◌, List, [], ◌∷◌, ◌++◌, length, take, drop, if◌then◌else◌, Option, Some, None, refl, sym, ap, subst, ◌∙◌, arith, inl, inr}
 use Rattle.std.proofs.lemmas.Bool.{cases_Bool}
 use Rattle.saa_core_spec.specs.Held.{Held}
 use Rattle.saa_core_spec.specs.Object.{Object, After, Waiter, entry_at}
@@ -98,24 +98,17 @@ settling rules places registered start last s m once barren slots g =
 
 -- what an event names under a test, it names where that holds
 pub named-if : (test : Bool) (said answer : Answer) → (if test then Some said else None) ≡ Some answer → (test ≡ true) × (said ≡ answer)
-named-if true said answer is = (refl, cc)
-named-if false said answer is = absurd (cc)
+named-if test said answer is = grind (arith, is)
 
 pub both-true : (one other : Bool) → (one && other) ≡ true → (one ≡ true) × (other ≡ true)
-both-true true true is = (refl, refl)
-both-true true false is = absurd (cc)
-both-true false other is = absurd (cc)
+both-true one other is = grind (arith, is)
 
 -- The end of a call
 
 pub registered-at : (standing : ℕ → Place) (me : ℕ) (place : Place)
     → with_registration standing me place.registration ≡ (λ other. (updated standing me place other).registration)
 registered-at standing me place =
-    all-same (with_registration standing me place.registration) (λ other. (updated standing me place other).registration) (λ other.
-    elim (cases_Bool (other == me)) [
-      | inl same ↦ rw same refl
-      | inr apart ↦ rw apart refl
-    ])
+    all-same (with_registration standing me place.registration) (λ other. (updated standing me place other).registration) (λ other. grind arith)
 
 module _ {rules : Rules} {places me : ℕ} {now : Configuration} {s : Object} (b : Begins rules places me now s) {asks : Option Ask} {was : Registration}
     {last : Configuration} (c : Course (needs_of rules) places me asks was b.state now.standing last) (over : PlacesAreQuiescent last.standing) where

@@ -1,11 +1,11 @@
 -- A call that moves alone is done: each of its steps lowers its step bound, and it needn't wait for anybody.
-use Rattle.std.proofs.Common.{◌^◌, ◌≡◌, ◌≢◌, ◌⊎◌, ℕ, suc, zero, ◌+◌, ◌*◌, ◌<◌, ◌≤◌, false, true, List, length, ◌==◌, Option, Some, None, is_some, nat_lt, refl, sym, ap, subst, ◌∙◌, arith, inl, inr}
+use Rattle.std.proofs.Common.{◌^◌, ◌≡◌, ◌≢◌, ◌⊎◌, ℕ, suc, zero, ◌+◌, ◌*◌, ◌<◌, ◌≤◌, false, true, List, length, Option, Some, None, is_some, refl, sym, ap, subst, ◌∙◌, arith, inl, inr}
 use Rattle.std.proofs.lemmas.List.{length-append}
 use Rattle.saa_core_spec.specs.Object.{one_if, times}
 use Rattle.saa_core_words.specs.Words.{count_bits, answer_number}
 use Rattle.saa_word_steps.specs.declared.call.Answer.{Answer}
 use Rattle.saa_word_steps.specs.declared.call.WordCall.{WordCall}
-use Rattle.saa_word_steps.specs.declared.call.WordCall.TheVariants.{Try, Register, Release, RegisterMode, TryPoll, Poll, Cancel}
+use Rattle.saa_word_steps.specs.declared.call.WordCall.TheVariants.{Poll}
 use Rattle.saa_word_steps.specs.declared.place.Place.{Place}
 use Rattle.saa_word_steps.specs.declared.place.Registration.{Registration}
 use Rattle.saa_word_steps.specs.declared.place.Registration.TheVariants.{Idle, AnsweredAtOnce, Queued}
@@ -14,19 +14,17 @@ use Rattle.saa_word_steps.specs.declared.place.Next.TheVariants.{Going, Waits, D
 use Rattle.saa_word_steps.specs.declared.place.AfterWalk.{AfterWalk}
 use Rattle.saa_word_steps.specs.declared.place.Stage.{Stage}
 use Rattle.saa_word_steps.specs.declared.place.Stage.TheVariants.{Quiet, Take}
-use Rattle.saa_word_steps.specs.declared.place.PollMode.{PollMode}
-use Rattle.saa_word_steps.specs.declared.place.PollMode.TheVariants.{Tries, Awaits}
+use Rattle.saa_word_steps.specs.declared.place.PollMode.TheVariants.{Awaits}
 use Rattle.saa_word_steps.specs.Needs.{Needs, AreNeeds}
 use Rattle.saa_word_steps.specs.declared.event.Event.{Event}
 use Rattle.saa_word_steps.specs.AbstractState.{AbstractState, is_in}
-use Rattle.saa_word_steps.specs.Steps.{going, operation_of, polled_as, cancelled_as, started}
-use Rattle.saa_word_steps.specs.Readings.{is_idle, is_taken}
+use Rattle.saa_word_steps.specs.Steps.{going, operation_of, polled_as, started}
+use Rattle.saa_word_steps.specs.Readings.{is_taken}
 use Rattle.saa_word_steps.proofs.AbstractRuns.{waits-none}
 use Rattle.saa_word_proofs.specs.Refinement.{Invariant}
 use Rattle.saa_word_proofs.specs.Rows.{main_of}
 use Rattle.saa_word_proofs.specs.Registering.{is_slot}
 use Rattle.saa_word_proofs.specs.StepRefinement.{place_after, row_after}
-use Rattle.saa_word_proofs.specs.Calls.{is_taken_up}
 use Rattle.saa_word_proofs.specs.CallStages.{IsBegun, IsUnder}
 use Rattle.saa_word_proofs.proofs.RefinementLemmas.Lists.{updated-at}
 use Rattle.saa_word_proofs.proofs.RefinementLemmas.Starting.{call-begun}
@@ -38,7 +36,6 @@ use Rattle.saa_word_proofs.specs.Alone.{Configuration, IsDoneIn, IsEither, Place
 use Rattle.saa_word_proofs.specs.Ends.{Ends}
 use Rattle.saa_word_proofs.proofs.SoloLemmas.Along.{Moves, moves-first, moves-on}
 use Rattle.saa_word_proofs.proofs.SoloLemmas.Quiet.{at-rest}
-use Rattle.saa_word_proofs.proofs.SoloLemmas.Ready.{next-if}
 use Rattle.saa_word_proofs.proofs.SoloLemmas.Waiting.{moves-waits, poll-next}
 
 -- a place is done in so many steps at most, from a moment on
@@ -81,9 +78,7 @@ in-call needs call registered back stage names under is = absurd (subst (λ (s :
 
 -- some steps are left before each step
 some-left : (ways : ℕ → ℕ) (number before : ℕ) (next : Next) → IsLower ways number before next → 0 < before
-some-left ways number before (Going place) lower = omega (arith, lower)
-some-left ways number before Waits lower = lower
-some-left ways number before (Done place answer) lower = lower.1
+some-left ways number before _ lower = grind (arith, lower)
 
 -- how many steps its place has left at most
 abbrev bound_at : ℕ → ℕ → Configuration → ℕ
@@ -122,32 +117,12 @@ abbrev IsFew : ℕ → (ℕ → ℕ) → ℕ → Next → Type 0
 IsFew places row most (Going place) = step_bound places row place.back place.stage ≤ most
 IsFew places row most _ = Unit {0}
 
--- few steps are left where a call starts: a poll, a cancel and a registration
-poll-few : (places : ℕ) (row : ℕ → ℕ) (most : ℕ) (place : Place) (taking : PollMode) (registration : Registration)
-    → step_bound places row place.back (Take taking) ≤ most → IsFew places row most (polled_as place taking registration)
-poll-few places row most place taking Idle small = tt
-poll-few places row most place taking (AnsweredAtOnce value request) small = tt
-poll-few places row most place taking (Queued request) small = small
-
-cancel-few : (needs : Needs) (places : ℕ) (row : ℕ → ℕ) (most : ℕ) (place : Place) (registration : Registration)
-    → 8 * way places row (main_of row).tail + 11 ≤ most → IsFew places row most (cancelled_as needs place registration)
-cancel-few needs places row most place Idle small = tt
-cancel-few needs places row most place (AnsweredAtOnce value request) small =
-    next-if (is_taken_up needs request value) (IsFew places row most) _ _ (omega (arith, small)) tt
-cancel-few needs places row most place (Queued request) small = small
-
-start-few : (needs : Needs) (places : ℕ) (row : ℕ → ℕ) (most : ℕ) (place : Place) (call : WordCall) → 8 * way places row (main_of row).tail + 11 ≤ most
-    → IsFew places row most (started needs place call)
-start-few needs places row most place (Try count) small = next-if (nat_lt needs.top count) (IsFew places row most) _ _ tt (omega (arith, small))
-start-few needs places row most place (Register count) small =
-    next-if (nat_lt needs.top count) (IsFew places row most) _ _ tt (next-if (is_idle place.registration) (IsFew places row most) _ _ (omega (arith, small)) tt)
-start-few needs places row most place (Release count) small =
-    next-if (nat_lt needs.top count) (IsFew places row most) _ _ tt (next-if (count == 0) (IsFew places row most) _ _ tt (omega (arith, small)))
-start-few needs places row most place (RegisterMode mode) small = next-if (is_idle place.registration) (IsFew places row most) _ _ (omega (arith, small)) tt
-start-few needs places row most place TryPoll small = poll-few places row most place Tries place.registration (omega (arith, small))
-start-few needs places row most place Poll small = poll-few places row most place Awaits place.registration (omega (arith, small))
-start-few needs places row most place Cancel small = cancel-few needs places row most place place.registration small
-start-few needs places row most place call small = omega (arith, small)
+-- few steps are left where a call starts
+start-few : (needs : Needs) (places : ℕ) (row : ℕ → ℕ) (most : ℕ) (place : Place) (call : WordCall) (registration : Registration)
+    → 8 * way places row (main_of row).tail + 11 ≤ most → IsFew places row most (started needs (record place { registration = registration }) call)
+start-few needs places row most place _ Idle small = grind arith
+start-few needs places row most place _ (AnsweredAtOnce value request) small = grind arith
+start-few needs places row most place _ (Queued request) small = grind arith
 
 -- a place that has joined, isn't in the line and has no answer to come has its answer
 has-answer : (waits : ℕ) (due shown : Option ℕ) → waits ≡ 0 → due ≡ None → waits + one_if (is_some due) + one_if (is_some shown) ≡ 1
@@ -161,8 +136,6 @@ polled : (needs : Needs) (places me : ℕ) (now : Configuration) (state : Abstra
     → (registration : Registration) → (now.standing me).registration ≡ registration
     → (place : Place) → polled_as (now.standing me) Awaits registration ≡ Going place
     → Finishes needs places me (put me (polled_as (now.standing me) Awaits registration) now) most
-polled needs places me now state most here s quiet absent some Idle is place goes = absurd (cc)
-polled needs places me now state most here s quiet absent some (AnsweredAtOnce value request) is place goes = absurd (cc)
 polled needs places me now state most here s quiet absent some (Queued request) is place goes =
     let rest = at-rest needs places now.row now.standing state s quiet in
     let found = has-answer (times me state.line) (state.due me) (state.shown me) (waits-none me state.line absent) (rest.paid me)
@@ -170,6 +143,7 @@ polled needs places me now state most here s quiet absent some (Queued request) 
     let done =
     poll-next needs places me now (Some found.0) (s.answers.words me here ∙ ap answer_number found.1) (λ value it. s.answers.small me value (found.1 ∙ it)) in
     onward (put me (going (now.standing me) (Take Awaits)) now) 0 most some (λ waits. absurd (cc)) (λ place goes. absurd (cc))
+polled needs places me now state most here s quiet absent some _ is place goes = absurd (cc)
 
 is-poll : (call : WordCall) → (call ≡ Poll) ⊎ (call ≡ Poll → ⊥)
 is-poll Poll = inl refl
@@ -197,7 +171,7 @@ ends needs lawful small places row standing state me call room here s quiet take
           (polled needs places me now state most here s quiet (absent poll) (omega arith) (standing me).registration refl place (sym polls ∙ is))
       | inr other ↦
           let begun : IsFew places row most (Going place) =
-          subst (λ (n : Next). IsFew places row most n) is (start-few needs places row most (standing me) call few) in
+          subst (λ (n : Next). IsFew places row most n) is (start-few needs places row most (standing me) call (standing me).registration few) in
           subst (λ (n : Next). Finishes needs places me (put me n now) most) (sym is)
           (finishes lawful small room here call (standing me).registration quiet other most (put me (Going place) now)
           (moves-first small s quiet here call taken place is)

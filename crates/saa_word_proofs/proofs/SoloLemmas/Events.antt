@@ -1,9 +1,8 @@
 -- The events of a call that moves alone between two moments when the object is at rest.
-use Rattle.std.proofs.Common.{◌≡◌, ◌⊎◌, ℕ, ◌+◌, Bool, true, false, List, [], ◌∷◌, ◌++◌, take, drop, ◌==◌, if◌then◌else◌, Option, Some, None, is_some, refl, sym, ap, subst, ◌∙◌, arith, inl, inr, append_assoc}
+use Rattle.std.proofs.Common.{◌≡◌, ◌⊎◌, ℕ, ◌+◌, true, false, List, [], ◌∷◌, ◌++◌, take, drop, Some, None, is_some, refl, sym, ap, subst, ◌∙◌, arith, inl, inr, append_assoc}
 use Rattle.std.proofs.lemmas.List.{take-append-drop}
 use Rattle.std.proofs.lemmas.Bool.{cases_Bool}
-use Rattle.std.proofs.Math.Bool.{or-false, or-true}
-use Rattle.saa_core_spec.proofs.Counts.{same_number}
+use Rattle.std.proofs.lemmas.Bool.Decides.{nat_tests}
 use Rattle.saa_word_steps.specs.Needs.{Needs, kept}
 use Rattle.saa_word_steps.specs.declared.event.Event.{Event}
 use Rattle.saa_word_steps.specs.declared.event.Event.TheVariants.{Closed, Granted, Showed, Poisoned}
@@ -22,20 +21,13 @@ run-append needs me (event ∷ first) second start middle last one other =
 
 pub named-append : (first second : List Event) → named (first ++ second) ≡ named first ++ named second
 named-append [] second = refl
-named-append (event ∷ first) second =
-    elim (cases_Bool (is_named event)) [
-      | inl names ↦ rw names (ap (λ (l : List Event). event ∷ l) (named-append first second))
-      | inr not_named ↦ rw not_named (named-append first second)
-    ]
+named-append (event ∷ first) second = grind (arith, named-append first second)
 
 -- while nothing is open and nothing due, nothing happens that no answer names
 nothing-else : (needs : Needs) (state : AbstractState) (me : ℕ) (event : Event) → state.unclosed ≡ false → ((place : ℕ) → state.due place ≡ None)
     → is_named event ≡ false → IsEnabled needs state me event → ⊥
-nothing-else needs state me (Granted askers) closed paid unnamed allowed = let wrong : true ≡ false = sym allowed.0 ∙ closed in absurd (cc)
-nothing-else needs state me Closed closed paid unnamed allowed = let wrong : true ≡ false = sym allowed.0 ∙ closed in absurd (cc)
-nothing-else needs state me (Showed shown_place) closed paid unnamed allowed =
-    let wrong : true ≡ false = sym allowed.0 ∙ ap (λ (a : Option ℕ). is_some a) (paid shown_place) in absurd (cc)
-nothing-else needs state me _ closed paid unnamed allowed = let wrong : true ≡ false = unnamed in absurd (cc)
+nothing-else needs state me (Showed shown_place) closed paid unnamed allowed = grind (arith, allowed, paid shown_place)
+nothing-else needs state me _ closed paid unnamed allowed = grind (arith, allowed, closed, unnamed)
 
 -- a list of events of a place leads from one state to another, and answers name these of them
 pub record NamedRun (needs : Needs) (me : ℕ) (start last : AbstractState) (names : List Event) : Type 0 where
@@ -50,7 +42,7 @@ unnamed-keep : (needs : Needs) (me : ℕ) (P : AbstractState → Type 0)
 unnamed-keep needs me P keeps [] state last names run was = subst P run was
 unnamed-keep needs me P keeps (event ∷ rest) state last names run was =
     elim (cases_Bool (is_named event)) [
-      | inl is ↦ let some : event ∷ named rest ≡ [] = rw is at names in absurd (cc)
+      | inl is ↦ absurd (grind (arith, is, names))
       | inr unnamed ↦
           unnamed-keep needs me P keeps rest (after_event needs state me event) last (rw unnamed at names) run.1 (keeps state event unnamed run.0 was)
     ]
@@ -94,33 +86,12 @@ IsPaid value start front state place =
 -- an answer that is shown is no longer due
 paid-shown : (needs : Needs) (value : ℕ) (start state : AbstractState) (front : List (ℕ × ℕ)) (me shown_place : ℕ) → is_some (state.due shown_place) ≡ true
     → ((place : ℕ) → IsPaid value start front state place) → (place : ℕ) → IsPaid value start front (after_event needs state me (Showed shown_place)) place
-paid-shown needs value start state front me shown_place allowed paid place =
-    elim (cases_Bool (place == shown_place)) [
-      | inl same ↦
-          let is : shown_place ≡ place = sym (same_number place shown_place same) in
-          let due : is_some (state.due place) ≡ true = ap (λ (n : ℕ). is_some (state.due n)) (sym is) ∙ allowed in
-          elim (paid place) [
-            | inl owes ↦
-                let answer : answered_with value front start.shown place ≡ Some value = rw owes.1 refl in
-                inr (rw same refl, rw same (ap (λ (n : ℕ). state.due n) is ∙ owes.0 ∙ sym answer))
-            | inr shows ↦
-                let wrong : true ≡ false = sym due ∙ ap (λ (a : Option ℕ). is_some a) shows.0 in absurd (cc)
-          ]
-      | inr apart ↦
-          elim (paid place) [
-            | inl owes ↦ inl (rw apart owes.0, owes.1)
-            | inr shows ↦ inr (rw apart shows.0, rw apart shows.1)
-          ]
-    ]
+paid-shown needs value start state front me shown_place allowed paid place = grind (arith, nat_tests, allowed, paid place)
 
 -- once nothing is due, all answers of the front are shown
 paid-all : (value : ℕ) (start last : AbstractState) (front : List (ℕ × ℕ)) → ((place : ℕ) → IsPaid value start front last place)
     → ((place : ℕ) → last.due place ≡ None) → (place : ℕ) → last.shown place ≡ answered_with value front start.shown place
-paid-all value start last front paid none place =
-    elim (paid place) [
-      | inl owes ↦ let wrong : false ≡ true = ap (λ (a : Option ℕ). is_some a) (sym (none place) ∙ owes.0) in absurd (cc)
-      | inr shows ↦ shows.1
-    ]
+paid-all value start last front paid none place = grind (arith, paid place, none place)
 
 -- Grants
 
@@ -156,18 +127,7 @@ grants-event needs start state me (Granted askers) unnamed allowed was =
     }
   where
     pays : (place : ℕ) → IsPaid 0 start (was.front ++ take askers state.line) (after_event needs state me (Granted askers)) place
-    pays place =
-        let grown = in-append place was.front (take askers state.line) in
-        elim (cases_Bool (is_in place (take askers state.line))) [
-          | inl there ↦ inl (rw there refl, grown ∙ rw there (or-true (is_in place was.front)))
-          | inr apart ↦
-              elim (was.paid place) [
-                | inl owes ↦ inl (rw apart owes.0, grown ∙ rw owes.1 refl)
-                | inr shows ↦
-                    let same : is_in place (was.front ++ take askers state.line) ≡ is_in place was.front = grown ∙ rw apart (or-false (is_in place was.front)) in
-                    inr (rw apart shows.0, shows.1 ∙ sym (ap (λ (b : Bool). if b then Some 0 else start.shown place) same))
-              ]
-        ]
+    pays place = grind (arith, was.paid place, in-append place was.front (take askers state.line))
 grants-event needs start state me Closed unnamed allowed was =
     record { front = was.front; parts = was.parts; fits = was.fits; count = was.count; same = was.same; paid = was.paid }
 grants-event needs start state me (Showed shown_place) unnamed allowed was = record {
@@ -202,8 +162,6 @@ record Tells (needs : Needs) (start state : AbstractState) : Type 0 where
 
 tells-event : (needs : Needs) (start state : AbstractState) (me : ℕ) (event : Event) → is_named event ≡ false → IsEnabled needs state me event
     → Tells needs start state → Tells needs start (after_event needs state me event)
-tells-event needs start state me (Granted askers) unnamed allowed was = let wrong : true ≡ false = sym allowed.0 ∙ was.closed in absurd (cc)
-tells-event needs start state me Closed unnamed allowed was = let wrong : true ≡ false = sym allowed.0 ∙ was.closed in absurd (cc)
 tells-event needs start state me (Showed shown_place) unnamed allowed was = record {
   poison = was.poison;
   count = was.count;
@@ -211,7 +169,7 @@ tells-event needs start state me (Showed shown_place) unnamed allowed was = reco
   line = was.line;
   paid = paid-shown needs 2 start state start.line me shown_place allowed.0 was.paid;
 }
-tells-event needs start state me _ unnamed allowed was = let wrong : true ≡ false = unnamed in absurd (cc)
+tells-event needs start state me _ unnamed allowed was = absurd (grind (arith, allowed, was.closed, unnamed))
 
 -- Behind poison all waiters are shown that, until nothing is due
 pub tells : (needs : Needs) (me : ℕ) (start : AbstractState) {last : AbstractState} → NamedRun needs me (after_event needs start me Poisoned) last [] → start.unclosed ≡ false
@@ -226,8 +184,4 @@ tells needs me start {last} leads closed paid none =
     (t.poison, t.line, paid-all 2 start last start.line t.paid none, t.count)
   where
     owes : (place : ℕ) → IsPaid 2 start start.line (after_event needs start me Poisoned) place
-    owes place =
-        elim (cases_Bool (is_in place start.line)) [
-          | inl there ↦ inl (rw there refl, there)
-          | inr apart ↦ inr (rw apart (paid place), rw apart refl)
-        ]
+    owes place = grind (arith, paid place)

@@ -1,10 +1,9 @@
 -- The sequential object beside a release and a cancel: what is given back, and the front that is granted behind it.
-use Rattle.std.proofs.Common.{◌≡◌, ℕ, ◌≤◌, Bool, true, false, [], ◌∷◌, ◌==◌, Option, Some, None, refl, sym, ap, ◌∙◌, zero, suc, not, ◌&&◌, List, inl, inr}
-use Rattle.std.proofs.lemmas.Bool.{cases_Bool}
+use Rattle.std.proofs.Common.{◌≡◌, ℕ, ◌≤◌, Bool, true, false, [], ◌∷◌, ◌==◌, Option, Some, None, refl, sym, ap, ◌∙◌, zero, suc, List, inl, inr, arith}
+use Rattle.std.proofs.lemmas.Bool.Decides.{nat_tests}
 use Rattle.saa_core_spec.specs.declared.request.Request.{Request}
-use Rattle.saa_core_spec.specs.declared.request.Request.TheVariants.{WaitExclusive, WaitShared}
-use Rattle.saa_core_spec.specs.Held.{Held, less, LockState, Free, Poisoned, held_lock, lock_less}
-use Rattle.saa_core_spec.specs.Object.{Object, After, Entry, Idle, Answered, Waiter, entry_at, with_entry, without}
+use Rattle.saa_core_spec.specs.Held.{Held, less}
+use Rattle.saa_core_spec.specs.Object.{Object, After, Entry, Idle, Answered, entry_at, with_entry, without}
 use Rattle.saa_core_spec.specs.Settling.{settled}
 use Rattle.saa_core_spec.specs.Polling.{given_back, given_back_of, dropped, dropped_of, left_of, undone_of}
 use Rattle.saa_core_spec.proofs.Counts.{same_number}
@@ -16,7 +15,7 @@ use Rattle.saa_word_steps.specs.declared.place.Registration.TheVariants.{Idle as
 use Rattle.saa_word_steps.specs.declared.place.ReleaseAmount.TheVariants.{Requested}
 use Rattle.saa_word_steps.specs.declared.call.Answer.{Answer}
 use Rattle.saa_word_steps.specs.declared.call.Answer.TheVariants.{Bool as Says, Unit as SaysNothing}
-use Rattle.saa_word_steps.specs.Needs.{Needs, needs_of, lock_at, lock_needs, permit_needs}
+use Rattle.saa_word_steps.specs.Needs.{Needs, needs_of}
 use Rattle.saa_word_steps.specs.declared.event.Event.{Event}
 use Rattle.saa_word_steps.specs.declared.event.Event.TheVariants.{Released, ReleasedNothing, AnswerTaken, Cancelled}
 use Rattle.saa_word_steps.specs.AbstractState.{AbstractState, IsEnabled, after_event, count_or, with_answer}
@@ -28,7 +27,7 @@ use Rattle.saa_word_proofs.specs.Represents.{held_at, held_where, waiters}
 use Rattle.saa_word_proofs.proofs.SoloLemmas.Along.{Course}
 use Rattle.saa_word_proofs.proofs.SoloLemmas.Endings.{Ended, leads, left-as, named-if, one-event, opening-event, only}
 use Rattle.saa_word_proofs.proofs.SoloLemmas.Events.{NamedRun, first-event}
-use Rattle.saa_word_proofs.proofs.SoloLemmas.HeldAt.{less-none, less-where, for-something, held-cases}
+use Rattle.saa_word_proofs.proofs.SoloLemmas.HeldAt.{less-none, less-where, for-something}
 use Rattle.saa_word_proofs.proofs.SoloLemmas.Mirroring.{same, same-entries, quiescent, StateIsQuiescent, barren-after, entry-is, idle-entry, new-entry, once-after, taken-other, waiting-entry}
 
 -- what is held is given back, and the line is settled; what isn't held isn't given back
@@ -93,25 +92,8 @@ module _ {rules : Rules} {places me : ℕ} {now : Configuration} {s : Object} (b
 -- a semaphore and a lock get back what was granted, and are settled once somebody has left
 form-drops : (rules : Rules) (state : AbstractState) (s : Object) (held : Held) (request : Request) → held ≡ held_at (needs_of rules) state
     → (undone_of s held request ≡ (given_back s request).state) × (left_of s held ≡ settled s)
-form-drops (Permits bound) state s held request is =
-    rw is (held-cases (permit_needs bound) state (λ held poisoned. (undone_of s held request ≡ (given_back s request).state) × (left_of s held ≡ settled s))
-    (λ shut. (refl, refl)) (λ calm. (refl, refl)))
-form-drops Modes state s held request is =
-    rw is (held-cases lock_needs state (λ held poisoned. (undone_of s held request ≡ (given_back s request).state) × (left_of s held ≡ settled s))
-    (λ poisoned. (refl, refl)) (λ calm. (refl, refl)))
-
--- no wait mode is given back
-wait-modes : (lock : LockState) → (lock_less lock WaitExclusive ≡ None) × (lock_less lock WaitShared ≡ None)
-wait-modes Free = (refl, refl)
-wait-modes _ = (refl, refl)
-
-waits-nothing : (state : AbstractState) (s : Object) (wait : Request) → ((lock : LockState) → lock_less lock wait ≡ None) → s.held ≡ held_at lock_needs state
-    → (given_back_of s false (less s.held wait)).state ≡ s
-waits-nothing state s wait none held =
-    ap (λ (h : Held). (given_back_of s false (less h wait)).state) held
-    ∙ held-cases lock_needs state (λ held poisoned. (given_back_of s false (less held wait)).state ≡ s)
-    (λ poisoned. ap (λ (l : Option LockState). (given_back_of s false (held_lock l)).state) (none Poisoned))
-    (λ calm. ap (λ (l : Option LockState). (given_back_of s false (held_lock l)).state) (none (lock_at state.count)))
+form-drops (Permits bound) state s held request is = rw is (grind arith)
+form-drops Modes state s held request is = rw is (grind arith)
 
 -- what takes nothing isn't given back
 undone-nothing : (rules : Rules) (state : AbstractState) (s : Object) (request : ℕ) → s.held ≡ held_at (needs_of rules) state
@@ -119,27 +101,18 @@ undone-nothing : (rules : Rules) (state : AbstractState) (s : Object) (request :
 undone-nothing (Permits bound) state s request held none = rw none refl
 undone-nothing Modes state s zero held none = absurd (cc)
 undone-nothing Modes state s (suc zero) held none = absurd (cc)
-undone-nothing Modes state s (suc (suc zero)) held none = waits-nothing state s WaitExclusive (λ lock. (wait-modes lock).0) held
-undone-nothing Modes state s (suc (suc (suc more))) held none = waits-nothing state s WaitShared (λ lock. (wait-modes lock).1) held
+undone-nothing Modes state s (suc (suc zero)) held none = rw held (grind arith)
+undone-nothing Modes state s (suc (suc (suc more))) held none = rw held (grind arith)
 
 -- Answers that are given up
 
 -- it took something, or not
 took-something : (needs : Needs) (request value : ℕ) → is_taken_up needs request value ≡ true → (value == 0 ≡ true) × (needs.takes request == 0 ≡ false)
-took-something needs request value up = either (value == 0) (needs.takes request == 0) up
-  where
-    either : (granted none : Bool) → (granted && not none) ≡ true → (granted ≡ true) × (none ≡ false)
-    either true true up = absurd (cc)
-    either true false up = (refl, refl)
-    either false none up = absurd (cc)
+took-something needs request value up = grind (arith, up)
 
 -- what takes something isn't 0
 takes-some : (needs : Needs) (request : ℕ) → (needs.takes request ≡ 0 → ⊥) → needs.takes request == 0 ≡ false
-takes-some needs request some =
-    elim (cases_Bool (needs.takes request == 0)) [
-      | inl none ↦ absurd (some (same_number (needs.takes request) 0 none))
-      | inr more ↦ more
-    ]
+takes-some needs request some = grind (arith, nat_tests, some)
 
 -- what a cancel answers
 abbrev pub dropped_by : Object → After Answer
@@ -153,25 +126,11 @@ drop-none {rules} {me = me} {s = s} b value request mode slotted entry up =
     let needs : Needs = needs_of rules in
     let freed : Object = with_entry s me Idle in
     ap (dropped_of s me) entry
-    ∙ (elim (cases_Bool (value == 0)) [
-      | inl granted ↦
-          let none : needs.takes request == 0 ≡ true = either (value == 0) (needs.takes request == 0) granted up in
-          rw granted ((form-drops rules b.state freed s.held (needs.read request) b.mirrors.held).0 ∙ undone-nothing rules b.state freed request b.mirrors.held none)
-      | inr other ↦ rw other refl
-    ])
-  where
-    either : (granted none : Bool) → granted ≡ true → (granted && not none) ≡ false → none ≡ true
-    either true true is up = refl
-    either true false is up = absurd (cc)
-    either false none is up = absurd (cc)
+    ∙ grind (arith, up, (form-drops rules b.state freed s.held (needs.read request) b.mirrors.held).0, undone-nothing rules b.state freed request b.mirrors.held)
 
 without-waiters : (needs : Needs) (me : ℕ) (line : List (ℕ × ℕ)) → without me (waiters needs line) ≡ waiters needs (without me line)
 without-waiters needs me [] = refl
-without-waiters needs me (asker ∷ rest) =
-    elim (cases_Bool (asker.0 == me)) [
-      | inl same ↦ rw same (without-waiters needs me rest)
-      | inr apart ↦ rw apart (ap (λ (l : List Waiter). (asker.0, needs.read asker.1) ∷ l) (without-waiters needs me rest))
-    ]
+without-waiters needs me (asker ∷ rest) = grind (arith, without-waiters needs me rest)
 
 module _ {rules : Rules} {places me : ℕ} {now : Configuration} {s : Object} (b : Begins rules places me now s) {asks : Option Ask} {was : Registration}
     {last : Configuration} (c : Course (needs_of rules) places me asks was b.state now.standing last) (over : PlacesAreQuiescent last.standing) where

@@ -1,13 +1,11 @@
 -- The sequential object beside a reading call, and beside a downgrade, poison, the clearing of it, and a shut.
-use Rattle.std.proofs.Common.{◌≡◌, ℕ, ◌<◌, Bool, true, false, not, ◌&&◌, ◌-◌, List, [], ◌∷◌, ◌==◌, Option, Some, refl, sym, ap, subst, ◌∙◌, arith, inl, inr, append-nil}
-use Rattle.std.proofs.lemmas.Bool.{cases_Bool}
+use Rattle.std.proofs.Common.{◌≡◌, ℕ, ◌<◌, Bool, true, false, not, ◌&&◌, ◌-◌, List, [], ◌∷◌, ◌==◌, Option, Some, refl, sym, ap, subst, ◌∙◌, arith, append-nil}
 use Rattle.std.proofs.lemmas.Bool.Decides.{nat_tests}
-use Rattle.saa_core_spec.specs.Held.{Held, OfLock, OfShutSemaphore, LockState, Free, Exclusive, Shared, Poisoned}
+use Rattle.saa_core_spec.specs.Held.{Held, OfLock, OfShutSemaphore, Free, Shared, Poisoned}
 use Rattle.saa_core_spec.specs.Lock.{is_free, is_locked, is_shared, is_poisoned, downgraded_of, poisoned_of, cleared_of}
 use Rattle.saa_core_spec.specs.Object.{Object, After, Waiter, entry_at}
 use Rattle.saa_core_spec.specs.Semaphore.{available, is_shut, shut_of}
 use Rattle.saa_core_spec.specs.Settling.{answered_in, settled}
-use Rattle.saa_core_spec.proofs.Counts.{same_number}
 use Rattle.saa_word_steps.specs.declared.rules.Rules.{Rules}
 use Rattle.saa_word_steps.specs.declared.rules.Rules.TheVariants.{Permits, Modes}
 use Rattle.saa_word_steps.specs.declared.place.Ask.{Ask}
@@ -27,7 +25,7 @@ use Rattle.saa_word_proofs.specs.Represents.{entry_of, held_at, waiters}
 use Rattle.saa_word_proofs.proofs.SoloLemmas.Along.{Course}
 use Rattle.saa_word_proofs.proofs.SoloLemmas.Endings.{Ended, answered-entries, at-end, leads, left-as, one-event, opening-event}
 use Rattle.saa_word_proofs.proofs.SoloLemmas.Events.{first-event, tells}
-use Rattle.saa_word_proofs.proofs.SoloLemmas.HeldAt.{length-answered, held-calm, held-cases, held-poisoned, is-poisoned, lock-cases}
+use Rattle.saa_word_proofs.proofs.SoloLemmas.HeldAt.{length-answered, held-calm, held-poisoned, is-poisoned}
 use Rattle.saa_word_proofs.proofs.SoloLemmas.Mirroring.{same, same-entries, shown-slot, quiescent}
 use Rattle.saa_word_proofs.proofs.SoloLemmas.Quiet.{at-rest}
 
@@ -40,31 +38,20 @@ says after = record { state = after.state; reply = Says after.reply }
 
 -- What a lock says of itself
 
-module _ {places me : ℕ} {now : Configuration} {s : Object} (b : Begins Modes places me now s) where
-  -- a test of it by its count, where a poisoned one counts nothing
-  by-count : (test : Held → Bool) (said : ℕ → Bool → Bool) → test (OfLock Poisoned) ≡ said 0 true
-      → (b.state.count == 0 ≡ true → test (OfLock Free) ≡ said b.state.count false)
-      → (b.state.count == 0 ≡ false → b.state.count == 63 ≡ true → test (OfLock Exclusive) ≡ said b.state.count false)
-      → (b.state.count == 0 ≡ false → b.state.count == 63 ≡ false → test (OfLock (Shared b.state.count)) ≡ said b.state.count false)
-      → test s.held ≡ said b.state.count b.state.poisoned
-  by-count test said poison free alone shared =
-      ap test b.mirrors.held
-      ∙ held-cases lock_needs b.state (λ held poisoned. test held ≡ said b.state.count poisoned)
-      (λ poisoned. poison ∙ ap (λ (n : ℕ). said n true) (sym (b.stands.main.barren poisoned).0))
-      (λ calm. lock-cases (λ (l : LockState). test (OfLock l) ≡ said b.state.count false) b.state.count free alone shared)
+-- by its count, where a poisoned one counts nothing
+tests-at : (state : AbstractState) → (state.poisoned ≡ true → state.count ≡ 0) → (is_free (held_at lock_needs state) ≡ ((state.count == 0) && not state.poisoned))
+    × (is_locked (held_at lock_needs state) ≡ (state.count == 63)) × (is_shared (held_at lock_needs state) ≡ (not (state.count == 0) && not (state.count == 63)))
+tests-at state barren = grind (arith, nat_tests, barren)
 
+module _ {places me : ℕ} {now : Configuration} {s : Object} (b : Begins Modes places me now s) where
   pub reads-free : is_free s.held ≡ ((b.state.count == 0) && not b.state.poisoned)
-  reads-free = by-count is_free (λ n p. (n == 0) && not p) refl (λ none. rw none refl) (λ some one. rw some refl) (λ some several. rw some refl)
+  reads-free = ap is_free b.mirrors.held ∙ (tests-at b.state (λ poisoned. (b.stands.main.barren poisoned).0)).0
 
   pub reads-locked : is_locked s.held ≡ (b.state.count == 63)
-  reads-locked =
-      by-count is_locked (λ n p. n == 63) refl (λ none. let other : b.state.count == 63 ≡ false = grind (arith, nat_tests) in sym other)
-      (λ some one. sym one) (λ some several. sym several)
+  reads-locked = ap is_locked b.mirrors.held ∙ (tests-at b.state (λ poisoned. (b.stands.main.barren poisoned).0)).1
 
   pub reads-shared : is_shared s.held ≡ (not (b.state.count == 0) && not (b.state.count == 63))
-  reads-shared =
-      by-count is_shared (λ n p. not (n == 0) && not (n == 63)) refl (λ none. rw none refl) (λ some one. rw (some, one) refl)
-      (λ some several. rw (some, several) refl)
+  reads-shared = ap is_shared b.mirrors.held ∙ (tests-at b.state (λ poisoned. (b.stands.main.barren poisoned).0)).2
 
   pub reads-poisoned : is_poisoned s.held ≡ b.state.poisoned
   reads-poisoned = ap is_poisoned b.mirrors.held ∙ is-poisoned b.state
@@ -74,26 +61,16 @@ module _ {places me : ℕ} {now : Configuration} {s : Object} (b : Begins Modes 
   is-owned owned = reads-locked ∙ ap (λ (n : ℕ). n == 63) owned.1
 
   isnt-owned : (IsOwned lock_needs b.state → ⊥) → is_locked s.held ≡ false
-  isnt-owned none =
-      elim (cases_Bool b.state.poisoned) [
-        | inl poison ↦ ap is_locked (b.mirrors.held ∙ held-poisoned lock_needs b.state poison)
-        | inr calm ↦
-            elim (cases_Bool (b.state.count == 63)) [
-              | inl one ↦ absurd (none (calm, same_number b.state.count 63 one, refl))
-              | inr several ↦ reads-locked ∙ several
-            ]
-      ]
+  isnt-owned none = reads-locked ∙ grind (arith, nat_tests, none, λ (poisoned : b.state.poisoned ≡ true). (b.stands.main.barren poisoned).0)
 
 -- What a semaphore says of itself, shut or not
 
 module _ {bound places me : ℕ} {now : Configuration} {s : Object} (b : Begins (Permits bound) places me now s) where
   pub reads-available : available s.held ≡ bound - b.state.count
-  reads-available =
-      ap available b.mirrors.held
-      ∙ held-cases (permit_needs bound) b.state (λ held poisoned. available held ≡ bound - b.state.count) (λ shut. refl) (λ calm. refl)
+  reads-available = ap available b.mirrors.held ∙ grind arith
 
   pub reads-shut : is_shut s.held ≡ b.state.poisoned
-  reads-shut = ap is_shut b.mirrors.held ∙ held-cases (permit_needs bound) b.state (λ held poisoned. is_shut held ≡ poisoned) (λ shut. refl) (λ calm. refl)
+  reads-shut = ap is_shut b.mirrors.held ∙ grind arith
 
 -- Calls of which the registration stays as it is
 
@@ -136,9 +113,8 @@ module _ {rules : Rules} {places me : ℕ} {now : Configuration} {s : Object} (b
         ap (λ (a : After Bool). Says a.reply) (done first.0.1) ∙ said,
       )
   end-poison after held done holds refused answer NotPoisoned names named =
-      let told : Says false ≡ answer = cc in
       one-event b c over (says after) answer NotPoisoned names (quiescent b).closed (quiescent b).paid
-      (λ allowed. (said s (Says false), ap says (refused allowed), same b, told))
+      (λ allowed. (said s (Says false), ap says (refused allowed), same b, cc))
   end-poison after held done holds refused answer _ names named = absurd (cc)
 
 -- Downgrades and the clearing of poison
@@ -160,28 +136,25 @@ module _ {places me : ℕ} {now : Configuration} {s : Object} (b : Begins Modes 
             b.mirrors.line refl,
       ))
   end-downgrade answer NotLowered names named =
-      let told : Says false ≡ answer = cc in
       one-event b c over (says (downgraded_of s (is_locked s.held))) answer NotLowered names (quiescent b).closed (quiescent b).paid
-      (λ none. (said s (Says false), ap (λ (b : Bool). says (downgraded_of s b)) (isnt-owned b none), same b, told))
+      (λ none. (said s (Says false), ap (λ (b : Bool). says (downgraded_of s b)) (isnt-owned b none), same b, cc))
   end-downgrade answer _ names named = absurd (cc)
 
   -- a poisoned lock is cleared, and is free then
   pub end-clear : (answer : Answer) (event : Event) → c.names ≡ event ∷ [] → clear_named event ≡ Some answer
       → Ended b c over (says (cleared_of s (is_poisoned s.held))) answer
   end-clear answer Cleared names named =
-      let told : Says true ≡ answer = cc in
       one-event b c over (says (cleared_of s (is_poisoned s.held))) answer Cleared names (quiescent b).closed (quiescent b).paid
       (λ allowed. (
         said (record s { held = OfLock Free }) (Says true),
         ap (λ (b : Bool). says (cleared_of s b)) (reads-poisoned b ∙ allowed.0),
         same-entries b (after_event lock_needs b.state me Cleared) (OfLock Free) s.line
             (ap (λ (n : ℕ). OfLock (lock_at n)) (sym (b.stands.main.barren allowed.0).0)) b.mirrors.line refl,
-        told,
+        cc,
       ))
   end-clear answer NotCleared names named =
-      let told : Says false ≡ answer = cc in
       one-event b c over (says (cleared_of s (is_poisoned s.held))) answer NotCleared names (quiescent b).closed (quiescent b).paid
-      (λ calm. (said s (Says false), ap (λ (b : Bool). says (cleared_of s b)) (reads-poisoned b ∙ calm), same b, told))
+      (λ calm. (said s (Says false), ap (λ (b : Bool). says (cleared_of s b)) (reads-poisoned b ∙ calm), same b, cc))
   end-clear answer _ names named = absurd (cc)
 
   -- only a lock that one owner has is poisoned
@@ -201,8 +174,4 @@ end-shut {bound} {s = s} b c over =
     end-poison b c over (shut_of s s.held) (OfShutSemaphore bound b.state.count)
     (λ may. ap (shut_of s) (b.mirrors.held ∙ held-calm (permit_needs bound) b.state may.0))
     (λ state poisoned counts. ap (OfShutSemaphore bound) (sym counts) ∙ sym (held-poisoned (permit_needs bound) state poisoned))
-    (λ none.
-    elim (cases_Bool b.state.poisoned) [
-      | inl poisoned ↦ ap (shut_of s) (b.mirrors.held ∙ held-poisoned (permit_needs bound) b.state poisoned)
-      | inr calm ↦ absurd (none (calm, refl))
-    ])
+    (λ none. ap (shut_of s) b.mirrors.held ∙ grind (arith, none))

@@ -1,15 +1,15 @@
 -- The sequential object beside a call that starts while no place is in one, and what represents the states behind its events.
-use Rattle.std.proofs.Common.{◌≡◌, ℕ, ◌<◌, ◌≤◌, Bool, true, false, List, [], ◌∷◌, ◌==◌, Option, Some, None, is_some, slice_set, refl, sym, ap, ◌∙◌, arith, inl, inr}
-use Rattle.std.proofs.lemmas.Bool.{cases_Bool}
+use Rattle.std.proofs.Common.{◌≡◌, ℕ, ◌<◌, ◌≤◌, Bool, true, false, List, [], ◌∷◌, Option, Some, None, slice_set, refl, sym, ap, ◌∙◌, arith}
+use Rattle.std.proofs.lemmas.Bool.Decides.{nat_tests}
 use Rattle.std.proofs.Math.ListN.{length-set}
 use Rattle.saa_core_spec.specs.declared.request.Request.{Request}
 use Rattle.saa_core_spec.specs.Held.{Held}
-use Rattle.saa_core_spec.specs.Object.{Object, Entry, Idle, Waiting, Waiter, entry_at, with_entry, one_if}
-use Rattle.saa_core_spec.proofs.Counts.{same_number, one_if-le}
+use Rattle.saa_core_spec.specs.Object.{Object, Entry, Idle, Waiting, Waiter, entry_at, with_entry}
+use Rattle.saa_core_spec.proofs.Counts.{one_if-le}
 use Rattle.saa_word_steps.specs.declared.rules.Rules.{Rules}
 use Rattle.saa_word_steps.specs.declared.place.Place.{Place}
 use Rattle.saa_word_steps.specs.declared.place.Registration.{Registration}
-use Rattle.saa_word_steps.specs.declared.place.Registration.TheVariants.{Idle as IsIdle, AnsweredAtOnce, Queued}
+use Rattle.saa_word_steps.specs.declared.place.Registration.TheVariants.{Idle as IsIdle, Queued}
 use Rattle.saa_word_steps.specs.declared.event.Event.{Event}
 use Rattle.saa_word_steps.specs.Needs.{Needs, needs_of}
 use Rattle.saa_word_steps.specs.AbstractState.{AbstractState, IsEnabled, after_event, held_by, is_in, with_answer}
@@ -29,18 +29,13 @@ use Rattle.saa_word_proofs.proofs.SoloLemmas.Slots.{barren-step}
 -- Places that wait, or are shown an answer
 
 pub slot-is : (registration : Registration) → is_slot registration ≡ true → (request : ℕ) × (registration ≡ Queued request)
-slot-is IsIdle slot = absurd (cc)
-slot-is (AnsweredAtOnce value request) slot = absurd (cc)
 slot-is (Queued request) slot = (request, refl)
+slot-is _ slot = absurd (cc)
 
 -- who is shown an answer joined the line
 pub shown-slot : {places : ℕ} {standing : ℕ → Place} {state : AbstractState} → AreSeats places standing state → (place value : ℕ) → state.shown place ≡ Some value
     → is_slot (standing place).registration ≡ true
-shown-slot {places} {standing} {state} seats place value shown =
-    elim (cases_Bool (is_slot (standing place).registration)) [
-      | inl slot ↦ slot
-      | inr none ↦ absurd (omega (arith, seats.held place, ap one_if none, ap (λ (a : Option ℕ). one_if (is_some a)) shown))
-    ]
+shown-slot {places} {standing} {state} seats place value shown = grind (arith, seats.held place, shown)
 
 -- a waiter is shown no answer, and joined the line
 pub waits-unshown : (state : AbstractState) (place : ℕ) → held_by place state ≤ 1 → is_in place state.line ≡ true → state.shown place ≡ None
@@ -48,13 +43,7 @@ waits-unshown state place once waits = none-answered (state.shown place) (omega 
 
 pub waits-slot : (places me : ℕ) (standing : ℕ → Place) (state : AbstractState) → AreSeats places standing state → is_in me state.line ≡ true
     → (is_slot (standing me).registration ≡ true) × (state.shown me ≡ None)
-waits-slot places me standing state seats waits = (
-  elim (cases_Bool (is_slot (standing me).registration)) [
-    | inl slot ↦ slot
-    | inr none ↦ absurd (omega (arith, seats.held me, ap one_if none, waits-some me state.line waits))
-  ],
-  waits-unshown state me (omega (arith, seats.held me, one_if-le (is_slot (standing me).registration))) waits,
-)
+waits-slot places me standing state seats waits = grind (arith, seats.held me, waits-some me state.line waits, none-answered (state.shown me))
 
 -- its entry waits
 pub waiting-entry : (needs : Needs) (places me : ℕ) (standing : ℕ → Place) (state : AbstractState) (s : Object) → PlacesRepresent needs places standing state s
@@ -68,11 +57,7 @@ waiting-entry needs places me standing state s m seats here there =
 
 -- the answers of all others are as they were
 pub taken-other : (me : ℕ) (answer : Option ℕ) (shown : ℕ → Option ℕ) (other : ℕ) → (other ≡ me → ⊥) → with_answer me answer shown other ≡ shown other
-taken-other me answer shown other apart =
-    elim (cases_Bool (other == me)) [
-      | inl same ↦ absurd (apart (same_number other me same))
-      | inr differs ↦ rw differs refl
-    ]
+taken-other me answer shown other apart = grind (arith, nat_tests, apart)
 
 -- What is known while a call has opened nothing: nothing is open and no answer due, no place is held twice, and nobody waits where every request
 -- is refused

@@ -1,6 +1,5 @@
 -- While no place is in a call the object is at rest, and so it is while no place is in the line or has an answer to take.
-use Rattle.std.proofs.Common.{◌≡◌, ℕ, ◌+◌, pred, Bool, true, false, not, List, [], ◌∷◌, ◌++◌, ◌==◌, Option, Some, None, is_some, refl, sym, ap, subst, ◌∙◌, arith, inl, inr}
-use Rattle.std.proofs.lemmas.Bool.{cases_Bool}
+use Rattle.std.proofs.Common.{◌≡◌, ℕ, ◌+◌, pred, Bool, true, false, not, List, [], ◌∷◌, ◌++◌, ◌==◌, Option, None, is_some, refl, sym, ap, subst, ◌∙◌, arith, zero, suc}
 use Rattle.std.proofs.lemmas.Bool.Decides.{nat_tests}
 use Rattle.saa_core_spec.specs.Object.{one_if, times}
 use Rattle.saa_core_spec.proofs.Counts.{number_same}
@@ -19,31 +18,21 @@ use Rattle.saa_word_proofs.specs.Alone.{PlacesAreQuiescent}
 use Rattle.saa_word_proofs.specs.Promises.{WordsAreQuiescent}
 
 pub none-answered : (answer : Option ℕ) → one_if (is_some answer) ≡ 0 → answer ≡ None
-none-answered None none = refl
-none-answered (Some value) none = absurd (omega (arith, none))
+none-answered _ none = grind arith
+
+is-zero : (n : ℕ) → (n ≡ pred n + 1 → ⊥) → n == 0 ≡ true
+is-zero zero never = refl
+is-zero (suc n) never = absurd (never (omega arith))
 
 module _ {needs : Needs} {places : ℕ} {row : ℕ → ℕ} {standing : ℕ → Place} {state : AbstractState} (s : Invariant needs places row standing state) where
   -- where no place is at a stage of the flag's holder nobody holds the flag
   pub nobody-holds : ((place : ℕ) → is_holder (standing place).stage ≡ false) → s.holder == 0 ≡ true
-  nobody-holds none =
-      elim (cases_Bool (s.holder == 0)) [
-        | inl nobody ↦ nobody
-        | inr somebody ↦
-            let is : s.holder ≡ pred s.holder + 1 = grind (arith, nat_tests, somebody) in
-            let test : s.holder == pred s.holder + 1 ≡ true = ap (λ (n : ℕ). s.holder == n) (sym is) ∙ number_same s.holder in
-            let wrong : false ≡ true = sym (none (pred s.holder)) ∙ s.stages.one (pred s.holder) ∙ test in
-            absurd (cc)
-      ]
+  nobody-holds none = is-zero s.holder (λ is. grind (arith, nat_tests, is, none (pred s.holder), s.stages.one (pred s.holder)))
 
   -- where no place has an answer to show none is due
   pub nothing-due : ((place : ℕ) → s.owed place ≡ []) → (place : ℕ) → state.due place ≡ None
   nothing-due none place =
-      elim (cases_Bool (is_some (state.due place))) [
-        | inl due ↦
-            let wrong : false ≡ true = ap (is_in place) (sym (none (state.granter place))) ∙ s.debts.paid_by place due in
-            absurd (cc)
-        | inr none ↦ none-answered (state.due place) (ap one_if none)
-      ]
+      grind (arith, ap (is_in place) (none (state.granter place)), s.debts.paid_by place, none-answered (state.due place))
 
   -- a place in no call has none to show
   pub quiet-owes : (place : ℕ) → (standing place).stage ≡ Quiet → s.owed place ≡ []
@@ -116,9 +105,7 @@ holding-some needs words me held line cut stage none h = absurd h
 nobody-in : (line : List (ℕ × ℕ)) → ((place : ℕ) → times place line ≡ 0) → line ≡ []
 nobody-in [] none = refl
 nobody-in (asker ∷ rest) none =
-    let some : asker.0 == asker.0 ≡ true = number_same asker.0 in
-    let zero : one_if (asker.0 == asker.0) + times asker.0 rest ≡ 0 = none asker.0 in
-    absurd (omega (arith, zero, ap one_if some))
+    absurd (omega (arith, none asker.0, ap one_if (number_same asker.0)))
 
 -- Where no place is registered in the line nobody waits and no answer is due; so nobody holds the flag, whatever calls are underway
 pub rest-unregistered : (needs : Needs) (places : ℕ) (row : ℕ → ℕ) (standing : ℕ → Place) (state : AbstractState)
@@ -128,10 +115,6 @@ rest-unregistered needs places row standing state s out =
     s.seats.held place ∙ ap one_if (out place) in
     let nobody : state.line ≡ [] = nobody-in state.line (λ place. omega (arith, nothing place)) in
     let free : s.holder == 0 ≡ true =
-    elim (cases_Bool (s.holder == 0)) [
-      | inl unheld ↦ unheld
-      | inr somebody ↦
-          let is : s.holder ≡ pred s.holder + 1 = grind (arith, nat_tests, somebody) in
-          absurd (holding-some needs (line_of row) (pred s.holder) state.count state.line s.cut (standing (pred s.holder)).stage nobody (s.stages.holding (pred s.holder) is))
-    ] in
+    is-zero s.holder (λ is.
+    holding-some needs (line_of row) (pred s.holder) state.count state.line s.cut (standing (pred s.holder)).stage nobody (s.stages.holding (pred s.holder) is)) in
     free-rest needs places row standing state s free (λ place. none-answered (state.due place) (omega (arith, nothing place)))

@@ -1,5 +1,5 @@
 -- While the flag is clear the words say all of an abstract state that a sequential object represents.
-use Rattle.std.proofs.Common.{◌≡◌, ℕ, ◌<◌, false, List, [], ◌∷◌, ◌++◌, Option, Some, None, refl, sym, ap, subst, ◌∙◌, arith}
+use Rattle.std.proofs.Common.{◌≡◌, ℕ, ◌<◌, false, List, [], ◌∷◌, ◌++◌, Option, refl, sym, ap, subst, ◌∙◌, arith}
 use Rattle.saa_core_spec.specs.Object.{Object}
 use Rattle.saa_core_words.specs.declared.line_word.LineWord.{LineWord}
 use Rattle.saa_core_words.specs.Words.{answer_number}
@@ -12,10 +12,7 @@ use Rattle.saa_word_proofs.specs.Represents.{Represents, entry_of, held_at, wait
 
 -- two answers of one number are one
 same-answer : (one other : Option ℕ) → answer_number one ≡ answer_number other → one ≡ other
-same-answer None None same = refl
-same-answer None (Some value) same = absurd (omega (arith, same))
-same-answer (Some value) None same = absurd (omega (arith, same))
-same-answer (Some value) (Some other) same = (let is : value ≡ other = omega (arith, same) in ap (λ (n : ℕ). let answer : Option ℕ = Some n in answer) is)
+same-answer _ _ same = grind arith
 
 -- two lists of places that are met from one link are one
 pub same-met : (words : ℕ → LineWord) (link : ℕ) (one other : List ℕ) → IsChain words link one → IsChain words link other → one ≡ other

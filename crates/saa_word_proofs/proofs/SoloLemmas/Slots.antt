@@ -1,30 +1,24 @@
 -- Who waits is registered in the line with what it asks: events keep that, since they change the line and what their place is registered as
 -- together.
-use Rattle.std.proofs.Common.{◌≡◌, ℕ, suc, zero, ◌≤◌, Bool, true, false, ◌||◌, ◌==◌, List, [], ◌∷◌, ◌++◌, length, drop, Option, is_some, if◌then◌else◌, refl, sym, ap, subst, ◌∙◌, arith, inl, inr}
+use Rattle.std.proofs.Common.{◌≡◌, ℕ, suc, zero, ◌≤◌, Bool, true, false, ◌==◌, List, [], ◌∷◌, ◌++◌, length, drop, Option, is_some, if◌then◌else◌, refl, sym, ap, subst, ◌∙◌, arith, inl, inr}
 use Rattle.std.proofs.lemmas.Bool.{cases_Bool}
 use Rattle.saa_core_spec.specs.Object.{one_if, without}
 use Rattle.saa_core_spec.proofs.Counts.{number_same}
 use Rattle.saa_word_steps.specs.declared.call.WordCall.{WordCall}
-use Rattle.saa_word_steps.specs.declared.call.WordCall.TheVariants.{TryPoll, Poll, Cancel}
 use Rattle.saa_word_steps.specs.declared.event.Event.{Event}
-use Rattle.saa_word_steps.specs.declared.event.Event.TheVariants.{Acquired, Joined, AskedPoisoned, Cancelled, Poisoned, Cleared, Granted, AnswerTaken}
+use Rattle.saa_word_steps.specs.declared.event.Event.TheVariants.{Acquired, Joined, AskedPoisoned, Cancelled, Poisoned, Granted, AnswerTaken}
 use Rattle.saa_word_steps.specs.declared.place.Ask.{Ask}
 use Rattle.saa_word_steps.specs.declared.place.Registration.{Registration}
-use Rattle.saa_word_steps.specs.declared.place.Registration.TheVariants.{Idle, AnsweredAtOnce, Queued}
+use Rattle.saa_word_steps.specs.declared.place.Registration.TheVariants.{Idle, Queued}
 use Rattle.saa_word_steps.specs.Needs.{Needs}
 use Rattle.saa_word_steps.specs.AbstractState.{AbstractState, IsEnabled, after_event, IsRun, is_in, held_by}
 use Rattle.saa_word_steps.proofs.AbstractRuns.{run-once}
 use Rattle.saa_word_proofs.specs.Rows.{updated}
 use Rattle.saa_word_proofs.specs.History.{is_named, named, of_place}
-use Rattle.saa_word_proofs.proofs.RefinementLemmas.Lists.{in-none, updated-same}
+use Rattle.saa_word_proofs.proofs.RefinementLemmas.Lists.{in-none, neither, updated-same}
 use Rattle.saa_word_proofs.specs.Registering.{AreRegistered, registration_after_start, is_slot, registration_after, registration_after_event}
 
 -- Lines
-
--- a test that is false says both
-neither : (one other : Bool) → one || other ≡ false → (one ≡ false) × (other ≡ false)
-neither true other is = absurd (cc)
-neither false other is = (refl, is)
 
 -- a place that isn't in the line may be registered as anything
 others-registered : (registered : ℕ → Registration) (me : ℕ) (one other : Registration) (line : List (ℕ × ℕ)) → is_in me line ≡ false
@@ -32,25 +26,16 @@ others-registered : (registered : ℕ → Registration) (me : ℕ) (one other : 
 others-registered registered me one other [] out are = tt
 others-registered registered me one other (asker ∷ rest) out are =
     let both = neither (asker.0 == me) (is_in me rest) out in
-    let skips : (x : Registration) → updated registered me x asker.0 ≡ registered asker.0 = λ x. rw both.0 refl in
-    (skips other ∙ sym (skips one) ∙ are.0, others-registered registered me one other rest both.1 are.1)
+    grind (arith, both.0, are.0, others-registered registered me one other rest both.1 are.1)
 
 without-registered : (registered : ℕ → Registration) (me : ℕ) (line : List (ℕ × ℕ)) → AreRegistered registered line
     → AreRegistered registered (without me line)
 without-registered registered me [] are = tt
-without-registered registered me (asker ∷ rest) are =
-    elim (cases_Bool (asker.0 == me)) [
-      | inl same ↦ rw same (without-registered registered me rest are.1)
-      | inr apart ↦ rw apart (are.0, without-registered registered me rest are.1)
-    ]
+without-registered registered me (asker ∷ rest) are = grind (arith, are.0, without-registered registered me rest are.1)
 
 without-out : (me : ℕ) (line : List (ℕ × ℕ)) → is_in me (without me line) ≡ false
 without-out me [] = refl
-without-out me (asker ∷ rest) =
-    elim (cases_Bool (asker.0 == me)) [
-      | inl same ↦ rw same (without-out me rest)
-      | inr apart ↦ rw apart (λ i. apart i || without-out me rest i)
-    ]
+without-out me (asker ∷ rest) = grind (arith, without-out me rest)
 
 drop-registered : (registered : ℕ → Registration) (askers : ℕ) (line : List (ℕ × ℕ)) → AreRegistered registered line → AreRegistered registered (drop askers line)
 drop-registered registered zero line are = are
@@ -71,13 +56,10 @@ not-in state me most held shown = in-none me state.line (omega (arith, held, sho
 -- a poisoned lock has nobody in line
 pub barren-step : (needs : Needs) (state : AbstractState) (place : ℕ) (event : Event) → IsEnabled needs state place event → (state.poisoned ≡ true → state.line ≡ [])
     → (after_event needs state place event).poisoned ≡ true → (after_event needs state place event).line ≡ []
-barren-step needs state place (Joined request) allowed was poisoned = (let wrong : true ≡ false = sym poisoned ∙ allowed.0 in absurd (cc))
 barren-step needs state place Cancelled allowed was poisoned = ap (without place) (was poisoned)
 barren-step needs state place (Granted askers) allowed was poisoned =
     let nobody : length state.line ≡ 0 = ap length (was poisoned) in absurd (omega (arith, allowed.1, allowed.2, nobody))
-barren-step needs state place Poisoned allowed was poisoned = refl
-barren-step needs state place Cleared allowed was poisoned = absurd (cc)
-barren-step needs state place _ allowed was poisoned = was poisoned
+barren-step needs state place _ allowed was poisoned = grind (arith, allowed, was, poisoned)
 
 -- what a place is registered as behind an event, where an answer names that
 abbrev left_by_named : Event → Option Ask → Registration → Registration
@@ -117,17 +99,11 @@ run-registered needs state last me (event ∷ events) asks registered was run on
   where
     same : (names : Bool) → registration_after (named events) asks (if names then registration_after_event event asks was else was)
         ≡ registration_after (if names then (event ∷ named events) else named events) asks was
-    same true = refl
-    same false = refl
+    same names = grind arith
 
 -- a call that starts leaves each place that is registered in the line as it is
 begun-slot : (call : WordCall) (registration : Registration) → is_slot registration ≡ true → registration_after_start call registration ≡ registration
-begun-slot call Idle slot = absurd (cc)
-begun-slot call (AnsweredAtOnce value request) slot = absurd (cc)
-begun-slot TryPoll (Queued request) slot = refl
-begun-slot Poll (Queued request) slot = refl
-begun-slot Cancel (Queued request) slot = refl
-begun-slot call (Queued request) slot = refl
+begun-slot _ _ slot = grind arith
 
 pub begun-registered-line : (state : AbstractState) (registered : ℕ → Registration) (me : ℕ) (call : WordCall) → held_by me state ≡ one_if (is_slot (registered me))
     → AreRegistered registered state.line → AreRegistered (updated registered me (registration_after_start call (registered me))) state.line

@@ -1,17 +1,17 @@
 -- A poll of a place that stands in the line finds no answer, and leaves all as it is; no other call waits that moves alone.
-use Rattle.std.proofs.Common.{◌^◌, zero, suc, true, false, not, Bool, Option, Some, None, is_some, ◌==◌, arith, inl, inr, refl, [], ◌≡◌, ℕ, ◌+◌, ◌%◌, ◌<◌, sym, ap, subst, ◌∙◌}
+use Rattle.std.proofs.Common.{◌^◌, zero, suc, true, false, Option, Some, None, is_some, ◌==◌, arith, inl, inr, refl, [], ◌≡◌, ℕ, ◌+◌, ◌%◌, ◌<◌, sym, ap, subst, ◌∙◌}
 use Rattle.std.proofs.lemmas.Bool.{cases_Bool}
 use Rattle.saa_core_spec.specs.Object.{one_if}
 use Rattle.saa_core_spec.proofs.Counts.{same_number}
 use Rattle.saa_core_words.specs.Words.{count_bits, answer_number, answer_of}
 use Rattle.saa_word_steps.specs.declared.place.Place.{Place}
 use Rattle.saa_word_steps.specs.declared.place.Registration.{Registration}
-use Rattle.saa_word_steps.specs.declared.place.Registration.TheVariants.{Idle, AnsweredAtOnce, Queued}
+use Rattle.saa_word_steps.specs.declared.place.Registration.TheVariants.{Queued}
 use Rattle.saa_word_steps.specs.declared.place.Stage.{Stage}
 use Rattle.saa_word_steps.specs.declared.place.Stage.TheVariants.{Quiet, Take, FlagLoad, FlagExchange, PoisonLoad, PoisonExchange}
 use Rattle.saa_word_steps.specs.declared.place.PollMode.TheVariants.{Awaits, Gives}
 use Rattle.saa_word_steps.specs.declared.place.Next.{Next}
-use Rattle.saa_word_steps.specs.declared.place.Next.TheVariants.{Going, Waits, Done}
+use Rattle.saa_word_steps.specs.declared.place.Next.TheVariants.{Going, Waits}
 use Rattle.saa_word_steps.specs.declared.call.WordCall.{WordCall}
 use Rattle.saa_word_steps.specs.declared.call.WordCall.TheVariants.{Poll}
 use Rattle.saa_word_steps.specs.Needs.{Needs, AreNeeds}
@@ -97,16 +97,14 @@ alone-stalls {needs} {places} {row} {standing} {state} me here s quiet stage at 
     unflagged : {A : Type 0} → is_holder (standing me).stage ≡ false → (main_of row).is_flagged ≡ true → A
     unflagged mine flagged =
         let nobody = nobody-holds s (each-but (λ (place : ℕ). is_holder (standing place).stage ≡ false) me mine (λ other apart. ap is_holder (quiet other apart))) in
-        let wrong : true ≡ false = sym flagged ∙ s.main.flag ∙ ap not nobody in
-        absurd (cc)
+        absurd (grind (arith, flagged, s.main.flag, nobody))
 
     by-stage : (stage : Stage) → (standing me).stage ≡ stage → IsBlockedAt needs state me (main_of row) stage → stage ≡ Take Awaits
     by-stage (Take Awaits) at blocked = refl
     by-stage (Take (Gives request)) at blocked =
         let mine : s.owed me ≡ [] = subst (λ (stage : Stage). IsShowing (s.owed me) (s.answer_value me) stage) at (s.stages.showing me) in
         let none = nothing-due s (each-but (λ (other : ℕ). s.owed other ≡ []) me mine (λ other apart. quiet-owes s other (quiet other apart))) me in
-        let wrong : true ≡ false = sym blocked ∙ ap (λ (a : Option ℕ). is_some a) none in
-        absurd (cc)
+        absurd (grind (arith, blocked, none))
     by-stage FlagLoad at blocked = unflagged (ap is_holder at) blocked
     by-stage (FlagExchange seen) at blocked = unflagged (ap is_holder at) blocked
     by-stage PoisonLoad at blocked = unflagged (ap is_holder at) blocked.2
@@ -144,11 +142,7 @@ module _ {needs : Needs} {places me : ℕ} (here : me < places) (call : WordCall
 shown-done : (needs : Needs) (places me : ℕ) (steps : ℕ) (begun : Configuration) (place : Place) (value : ℕ)
     → next_at needs places me begun ≡ taken_answer needs place Awaits (Some value) → WaitsBehind needs places me steps begun → ⊥
 shown-done needs places me zero begun place value done h =
-    let wrong : true ≡ false = ap is_done (sym done ∙ h) in absurd (cc)
-  where
-    is_done : Next → Bool
-    is_done (Done place answer) = true
-    is_done _ = false
+    absurd (cc)
 shown-done needs places me (suc more) begun place value done h =
     subst (λ (next : Next). IsEither next (WaitsBehind needs places me more (stepped needs places me begun)) (λ said. ⊥)) done h
 
@@ -165,8 +159,6 @@ poll-only : (needs : Needs) (places me : ℕ) (steps : ℕ) (now : Configuration
     → IsEither (polled_as (now.standing me) Awaits registration)
     (WaitsBehind needs places me steps (put me (polled_as (now.standing me) Awaits registration) now)) (λ said. ⊥)
     → is_in me state.line ≡ true
-poll-only needs places me steps now state s here due Idle is h = absurd h
-poll-only needs places me steps now state s here due (AnsweredAtOnce value request) is h = absurd h
 poll-only needs places me steps now state s here due (Queued request) is h = shown-or (state.shown me) refl
   where
     shown-or : (shown : Option ℕ) → state.shown me ≡ shown → is_in me state.line ≡ true
@@ -174,6 +166,7 @@ poll-only needs places me steps now state s here due (Queued request) is h = sho
     shown-or (Some value) some =
         absurd (shown-done needs places me steps (put me (going (now.standing me) (Take Awaits)) now) (record (now.standing me) { stage = Take Awaits }) value
         (poll-next needs places me now (Some value) (s.answers.words me here ∙ ap answer_number some) (λ v is. s.answers.small me v (some ∙ is))) h)
+poll-only needs places me steps now state s here due _ is h = absurd h
 
 -- Only a poll of a place that stands in the line waits
 pub only-polls : (needs : Needs) → AreNeeds needs → (places me : ℕ) (call : WordCall) (steps : ℕ) (now : Configuration) (state : AbstractState)
