@@ -28,7 +28,7 @@ home_of place = place.seat.table_id
 abbrev pub Rests : Place → Type 0
 Rests place = registered place ≡ Idle
 
--- what a try tells: it was granted, or it would have to wait. One that finds the semaphore shut tells that, too: who asks at a place is told why
+-- what a try tells: it was granted, or it would have to wait. One that finds the semaphore shut tells that, too: a call at a place is told why
 abbrev pub told_by : Bool → Result (Unit {0}) TryLockError
 told_by true = Ok tt
 told_by false = Err WouldBlock
