@@ -68,7 +68,7 @@ only-looked needs places row standing state me stage {next = next} out main same
   stands = rw (main, same, goes) (loaded needs places row (updated standing me (place_after (standing me) next)) out.last 0 out.stands);
 }
 
--- A write to the main word alone: the count, the marks and who holds the flag may change, and nobody else but this place moves
+-- A write to the main word alone: the count, the marks and the flag's holder may change, and only this place moves
 pub exchanged : (needs : Needs) (places : ℕ) (row : ℕ → ℕ) (standing : ℕ → Place) (state : AbstractState) (me : ℕ) (s : Invariant needs places row standing state)
     (number count : ℕ) (unclosed poisoned : Bool) (holder : ℕ) (place : Place)
     → (places ≤ me → joins_line place.stage ≡ false) → is_slot place.registration ≡ is_slot (standing me).registration

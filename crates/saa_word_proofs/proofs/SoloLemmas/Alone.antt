@@ -97,7 +97,7 @@ module _ {rules : Rules} {places me : ℕ} {now : Configuration} {s : Object} (b
       idle-is Idle idle = refl
       idle-is _ idle = absurd (cc)
 
-  -- polls: only who joined the line has steps to make
+  -- polls: only a place in the queue has steps to make
   polls : (tries : Bool) (taking : PollMode) (registration : Registration) → (now.standing me).registration ≡ registration
       → AgreesFrom b (polled_by (polled s me TriesHow)) None (IsNamed (poll_named tries)) (polled_as (now.standing me) taking registration)
   polls tries taking Idle is =
@@ -109,7 +109,7 @@ module _ {rules : Rules} {places me : ℕ} {now : Configuration} {s : Object} (b
       (idle-entry b b.state.shown (λ other apart. refl)) refl
   polls tries taking (Queued request) is = λ answer last c one over. end-poll b c over tries answer one.0 one.1 one.2
 
-  -- cancels: what was given at once is given back where it took something, and who joined the line looks for itself
+  -- cancels: an answer that came at once is given back if it took something, and a place in the queue looks for itself
   cancels : (registration : Registration) → (now.standing me).registration ≡ registration
       → AgreesFrom b (dropped_by (dropped s me)) None (λ names answer. (answer ≡ SaysNothing) × IsCancelled (needs_of rules) registration names)
       (cancelled_as (needs_of rules) (now.standing me) registration)
