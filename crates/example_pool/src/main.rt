@@ -7,8 +7,6 @@ mod folder;
 mod ledger;
 mod pooled;
 mod share;
-#[cfg(test)]
-mod tests;
 
 use crate::connections::Database;
 use crate::folder::Folder;

@@ -4,8 +4,6 @@
 #![tactic(auto)]
 
 mod exchange;
-#[cfg(test)]
-mod tests;
 
 use crate::exchange::{ends_in_time, exchange};
 use std::time::Duration;

@@ -4,8 +4,6 @@
 mod report;
 mod serve;
 mod service;
-#[cfg(test)]
-mod tests;
 
 use crate::report::Report;
 use crate::serve::{Plan, serve};

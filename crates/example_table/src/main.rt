@@ -2,8 +2,6 @@
 #![tactic(auto)]
 
 mod table;
-#[cfg(test)]
-mod tests;
 mod work;
 
 use crate::work::share;

@@ -6,8 +6,6 @@
 mod crew;
 mod steps;
 mod task;
-#[cfg(test)]
-mod tests;
 mod workshop;
 
 use crate::workshop::{DESKS, TASKS, Told, work};
