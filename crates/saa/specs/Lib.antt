@@ -68,7 +68,7 @@ pub use Rattle.saa_word_threads.specs.Semaphores as WordSemaphores
 pub use Rattle.saa_word_threads.specs.Locks as WordLocks
 pub use Rattle.saa_word_threads.specs.Public as WordCalls
 pub use Rattle.saa_word_threads.specs.Called as WordEvents
-pub use Rattle.saa_word_threads.specs.Told as WordViews
+pub use Rattle.saa_word_threads.specs.Moves as WordViews
 pub use Rattle.saa_word_threads.specs.Dealt as WordPlaces
 pub use Rattle.saa_word_threads.specs.Kept as WordHistory
 pub use Rattle.saa_word_threads.specs.Visits as WordVisits

@@ -173,9 +173,9 @@ ArePending-owing slot pending_wakes room within h =
     ]
 
 -- the oldest was told
-pub ArePending-told : (pending_wakes : List ℕ) (room : ℕ) → ArePending pending_wakes room → ArePending (drop 1 pending_wakes) room
-ArePending-told [] room h = h
-ArePending-told (first ∷ rest) room h = record { each = λ slot. omega (arith, h.each slot) }
+pub ArePending-taken : (pending_wakes : List ℕ) (room : ℕ) → ArePending pending_wakes room → ArePending (drop 1 pending_wakes) room
+ArePending-taken [] room h = h
+ArePending-taken (first ∷ rest) room h = record { each = λ slot. omega (arith, h.each slot) }
 
 -- what is owed once is below the room
 pub ArePending-below : (pending_wakes : List ℕ) (room slot : ℕ) → ArePending pending_wakes room → 0 < count_of slot pending_wakes → slot < room

@@ -64,7 +64,7 @@ impl Model for BarrierCore {
     ghost invariant = { λ barrier. record {
       sound : IsSound barrier.line;
       small : barrier.size ≤ max_tasks;
-      few : barrier.arrived ≤ max_tasks;
+      bounded : barrier.arrived ≤ max_tasks;
       incomplete : IsBarrierOf (OfBarrier barrier.size barrier.arrived barrier.round) barrier.line.line;
     } };
 }
@@ -239,7 +239,7 @@ impl BarrierCore {
     // waiters pass, and the next round begins.
     fn resize(&mut self, size: usize, arrived: usize) -> bool
         requires small { size ≤ max_tasks }
-        requires few { arrived ≤ max_tasks }
+        requires bounded { arrived ≤ max_tasks }
         ensures complete { result ≡ is_complete size (arrived + length self.old.slots.line) }
         ensures state { self.new ≡ core_resized self.old.slots size arrived (round_of self.old.held) }
         ensures wakes { WakesAnswered self.old.slots self.new.slots }

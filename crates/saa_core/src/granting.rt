@@ -248,7 +248,7 @@ impl<N: Needs> Granting<N> {
     /// Takes out the oldest pending wake, and reports its slot; `None` exactly where none is pending. Costs O(1).
     pub fn next_answered(&mut self) -> Option<u16>
         ensures oldest { result ≡ slice_get self.old.slots.pending_wakes 0 }
-        ensures told { self.new ≡ record self.old { slots = wake_taken self.old.slots } }
+        ensures taken { self.new ≡ record self.old { slots = wake_taken self.old.slots } }
         ensures within { IfSome result (λ slot. slot < room_of self.old.slots) }
         ensures settled { IsCoreSettled self.new }
     {

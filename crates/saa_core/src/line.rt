@@ -217,7 +217,7 @@ impl<O: Order> LineOf<O> {
     /// comes.
     pub fn next_answered(&mut self) -> Option<u16>
         ensures oldest { result ≡ slice_get self.old.pending_wakes 0 }
-        ensures told { self.new ≡ wake_taken self.old }
+        ensures taken { self.new ≡ wake_taken self.old }
         ensures within { IfSome result (λ slot. slot < room_of self.old) }
         ensures sound { IsSound self.new }
     {

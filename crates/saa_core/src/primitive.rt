@@ -136,7 +136,7 @@ pub trait Primitive: Drop {
     /// exactly where none is pending. A slot comes once however often it was answered in between. Costs O(1).
     fn next_answered(&mut self) -> Option<u16>
         ensures oldest { result ≡ slice_get (core self.old).slots.pending_wakes 0 }
-        ensures told { core self.new ≡ record (core self.old) { slots = wake_taken (core self.old).slots } }
+        ensures taken { core self.new ≡ record (core self.old) { slots = wake_taken (core self.old).slots } }
         ensures within { IfSome result (λ slot. slot < room_of (core self.old).slots) }
         ensures invariant { core_invariant (core self.new) };
 }

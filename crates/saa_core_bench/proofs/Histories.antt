@@ -34,8 +34,8 @@ module _ {C K A V : Type 0} (request : K → Request) (step : C → Object → A
   replays-written opening mid now history replays doing =
       let does : done request step value command (state_after request step value (commands_of history) opening) ≡ record { state = now; reply = reply } = ap (done request step value command) replays.left ∙ doing in
       record {
-        told = replies-written history opening
-            ∙ ap (λ list. list ++ (done request step value command (state_after request step value (commands_of history) opening)).reply ∷ []) replays.told
+        replied = replies-written history opening
+            ∙ ap (λ list. list ++ (done request step value command (state_after request step value (commands_of history) opening)).reply ∷ []) replays.replied
             ∙ ap (λ after. replies_of history ++ after.reply ∷ []) does
             ∙ sym (replies_of-written history);
         left = state-written history opening ∙ ap (λ after. after.state) does;

@@ -18,7 +18,7 @@ replies_of history = map (λ entry. entry.1) history
 -- A history replays from one state to another: the run of its commands from the first gives its replies, and leaves the
 -- second
 pub record Replays {C K A V : Type 0} (request : K → Request) (step : C → Object → After A) (value : Result ℕ Error → V) (opening : Object) (history : List (CommandOf C K × ReplyOf A V)) (now : Object) : Type 0 where
-  pub told : replies request step value (commands_of history) opening ≡ replies_of history
+  pub replied : replies request step value (commands_of history) opening ≡ replies_of history
   pub left : state_after request step value (commands_of history) opening ≡ now
 
 -- an object that is nothing in particular

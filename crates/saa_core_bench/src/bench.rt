@@ -114,7 +114,7 @@ impl<P: Primitive> Bench<P> {
     pub fn run(&mut self, commands: &[Command<P>], out: &mut [Reply<P>])
         requires same_length { length commands.now ≡ length out.old }
         requires within { All (IsWithin (length self.old.book)) commands.now }
-        ensures told { out.new ≡ replies P.request P.step P.value commands.now self.old }
+        ensures replied { out.new ≡ replies P.request P.step P.value commands.now self.old }
         ensures left { self.new ≡ state_after P.request P.step P.value commands.now self.old }
         ensures pagers { length self.new.book ≡ length self.old.book }
         ensures object_invariant { P.object_invariant self.new }

@@ -123,7 +123,7 @@ impl<L: RawLockUntil + Drop, T, K> Guarded<L, T, K> {
         &'a self,
         deadline: Deadline,
     ) -> Result<Option<G::Guard>, Full>
-        ensures taken { IfOk result (λ told. IfSome told (λ guard. G.lock_of guard ≡ self.now)) }
+        ensures taken { IfOk result (λ reply. IfSome reply (λ guard. G.lock_of guard ≡ self.now)) }
         ensures full { IfErr result (λ full. L.is_full self.now) }
     {
         match self.lock.take_until(G::mode(), deadline)? {

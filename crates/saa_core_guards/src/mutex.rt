@@ -50,7 +50,7 @@ impl<L: RawLockUntil + Drop, T> Guarded<L, T, OfMutex> {
     /// `Ok(None)`: time is up, and nothing is registered or taken; those behind are granted while they fit. `Full` comes at once, where it
     /// would have to wait and there is no room for one more waiter.
     pub fn lock_for(&self, duration: Duration) -> Result<Option<MutexGuard<'_, L, T>>, Full>
-        ensures guard { IfOk result (λ told. IfSome told (λ guard. guard.turn.lock.now ≡ self.now)) }
+        ensures guard { IfOk result (λ reply. IfSome reply (λ guard. guard.turn.lock.now ≡ self.now)) }
         ensures full { IfErr result (λ full. L.is_full self.now) }
     {
         self.take_until::<OfMutex>(self.lock.after(duration))
@@ -58,7 +58,7 @@ impl<L: RawLockUntil + Drop, T> Guarded<L, T, OfMutex> {
 
     /// Takes the mutex as [`Self::lock_for`] does, and waits for it until this instant.
     pub fn lock_until(&self, deadline: Instant) -> Result<Option<MutexGuard<'_, L, T>>, Full>
-        ensures guard { IfOk result (λ told. IfSome told (λ guard. guard.turn.lock.now ≡ self.now)) }
+        ensures guard { IfOk result (λ reply. IfSome reply (λ guard. guard.turn.lock.now ≡ self.now)) }
         ensures full { IfErr result (λ full. L.is_full self.now) }
     {
         self.take_until::<OfMutex>(Deadline::At(deadline))

@@ -122,10 +122,10 @@ impl<H: Holder> PermitFrom<H> {
     /// `Ok(None)` comes at once, exactly where there never are so many. An error is the semaphore's, which may have no room for one more waiter. Both
     /// change nothing.
     pub fn acquire(holder: H, count: usize) -> Result<Option<Self>, ErrorOf<H>>
-        ensures holder { IfOk result (λ told. IfSome told (λ permit. permit.holder ≡ holder)) }
-        ensures count { IfOk result (λ told. IfSome told (λ permit. permit.count ≡ count)) }
-        ensures granted { IfOk result (λ told. OnSome told (H.Semaphore.granted (H.held holder) count)) }
-        ensures answer { IfOk result (λ told. IsSome told ↔ (count ≤ H.Semaphore.bound)) }
+        ensures holder { IfOk result (λ reply. IfSome reply (λ permit. permit.holder ≡ holder)) }
+        ensures count { IfOk result (λ reply. IfSome reply (λ permit. permit.count ≡ count)) }
+        ensures granted { IfOk result (λ reply. OnSome reply (H.Semaphore.granted (H.held holder) count)) }
+        ensures answer { IfOk result (λ reply. IsSome reply ↔ (count ≤ H.Semaphore.bound)) }
     {
         if holder.semaphore().take(count)? {
             Ok(Some(PermitFrom::of(holder, count)))
@@ -224,9 +224,9 @@ where
     /// As [`PermitFrom::acquire_one`], at most until the deadline; it joins at once, without a look before it. `Ok(None)`: time is up, and nothing is
     /// registered or taken.
     pub fn acquire_one_until(holder: H, deadline: Deadline) -> Result<Option<Self>, ErrorOf<H>>
-        ensures holder { IfOk result (λ told. IfSome told (λ permit. permit.holder ≡ holder)) }
-        ensures count { IfOk result (λ told. IfSome told (λ permit. permit.count ≡ 1)) }
-        ensures granted { IfOk result (λ told. OnSome told (H.Semaphore.granted (H.held holder) 1)) }
+        ensures holder { IfOk result (λ reply. IfSome reply (λ permit. permit.holder ≡ holder)) }
+        ensures count { IfOk result (λ reply. IfSome reply (λ permit. permit.count ≡ 1)) }
+        ensures granted { IfOk result (λ reply. OnSome reply (H.Semaphore.granted (H.held holder) 1)) }
     {
         match holder.semaphore().take_one_until(deadline)? {
             Some(()) => Ok(Some(PermitFrom::of(holder, 1))),

@@ -57,7 +57,7 @@ impl<'s, S: RawSemaphoreAsync> Future for PermitsFuture<'s, S> {
 
     ghost needs = { λ future source. source ≡ S.source future.semaphore };
 
-    ghost gives = { λ future answer. IfOk answer (λ told. IfSome told (λ permits. (permits.holder.now ≡ future.semaphore) × (permits.count ≡ future.count) × S.granted future.semaphore future.count)) };
+    ghost gives = { λ future answer. IfOk answer (λ reply. IfSome reply (λ permits. (permits.holder.now ≡ future.semaphore) × (permits.count ≡ future.count) × S.granted future.semaphore future.count)) };
 
     fn poll(&mut self, cx: &mut Context<'_>) -> Poll<Result<Option<PermitFrom<&'s S>>, S::Error>> {
         match ready!(

@@ -82,7 +82,7 @@ pub trait RawLockUntil: RawLock {
 
     /// Takes the lock in a mode, and waits for it until the deadline; it joins at once, without a look before it. `None`: time is up.
     fn take_until(&self, mode: Mode, deadline: Deadline) -> Result<Option<Self::Witness>, Full>
-        ensures taken { IfOk result (λ told. IfSome told (λ witness. ∥ Self.granted self.now mode witness ∥₁)) }
+        ensures taken { IfOk result (λ reply. IfSome reply (λ witness. ∥ Self.granted self.now mode witness ∥₁)) }
         ensures full { IfErr result (λ full. Self.is_full self.now) };
 }
 

@@ -51,12 +51,12 @@ pub trait RawSemaphoreUntil: RawSemaphore {
 
     /// As [`RawSemaphore::take_one`], at most until the deadline; it joins at once, without a look before it. `Ok(None)`: time is up.
     fn take_one_until(&self, deadline: Deadline) -> Result<Option<()>, Self::Error>
-        ensures { IfOk result (λ told. IfSome told (λ done. Self.granted self.now 1)) };
+        ensures { IfOk result (λ reply. IfSome reply (λ done. Self.granted self.now 1)) };
 
     /// As [`RawSemaphore::take`], at most until the deadline; it joins at once, without a look before it. `Ok(None)`: time is up.
     fn take_until(&self, count: usize, deadline: Deadline) -> Result<Option<bool>, Self::Error>
-        ensures granted { IfOk result (λ told. IfSome told (λ is_granted. is_granted ≡ true → Self.granted self.now count)) }
-        ensures answer { IfOk result (λ told. IfSome told (λ is_granted. IsTrue is_granted ↔ (count ≤ Self.bound))) };
+        ensures granted { IfOk result (λ reply. IfSome reply (λ is_granted. is_granted ≡ true → Self.granted self.now count)) }
+        ensures answer { IfOk result (λ reply. IfSome reply (λ is_granted. IsTrue is_granted ↔ (count ≤ Self.bound))) };
 }
 
 /// A semaphore at which tasks wait for permits by futures.

@@ -79,7 +79,7 @@ impl<L: RawLockUntil + Drop, T> Guarded<L, T, OfRwLock> {
     /// `Ok(None)`: time is up, and nothing is registered or taken; those behind are granted while they fit. `Full` comes at once, where it
     /// would have to wait and there is no room for one more waiter.
     pub fn read_for(&self, duration: Duration) -> Result<Option<RwLockReadGuard<'_, L, T>>, Full>
-        ensures guard { IfOk result (λ told. IfSome told (λ guard. guard.turn.lock.now ≡ self.now)) }
+        ensures guard { IfOk result (λ reply. IfSome reply (λ guard. guard.turn.lock.now ≡ self.now)) }
         ensures full { IfErr result (λ full. L.is_full self.now) }
     {
         self.take_until::<OfReader>(self.lock.after(duration))
@@ -87,7 +87,7 @@ impl<L: RawLockUntil + Drop, T> Guarded<L, T, OfRwLock> {
 
     /// Takes the lock to read as [`Self::read_for`] does, and waits for it until this instant.
     pub fn read_until(&self, deadline: Instant) -> Result<Option<RwLockReadGuard<'_, L, T>>, Full>
-        ensures guard { IfOk result (λ told. IfSome told (λ guard. guard.turn.lock.now ≡ self.now)) }
+        ensures guard { IfOk result (λ reply. IfSome reply (λ guard. guard.turn.lock.now ≡ self.now)) }
         ensures full { IfErr result (λ full. L.is_full self.now) }
     {
         self.take_until::<OfReader>(Deadline::At(deadline))
@@ -95,7 +95,7 @@ impl<L: RawLockUntil + Drop, T> Guarded<L, T, OfRwLock> {
 
     /// Takes the lock to write, and waits and answers as [`Self::read_for`] does.
     pub fn write_for(&self, duration: Duration) -> Result<Option<RwLockWriteGuard<'_, L, T>>, Full>
-        ensures guard { IfOk result (λ told. IfSome told (λ guard. guard.turn.turn.lock.now ≡ self.now)) }
+        ensures guard { IfOk result (λ reply. IfSome reply (λ guard. guard.turn.turn.lock.now ≡ self.now)) }
         ensures full { IfErr result (λ full. L.is_full self.now) }
     {
         self.take_until::<OfWriter>(self.lock.after(duration))
@@ -103,7 +103,7 @@ impl<L: RawLockUntil + Drop, T> Guarded<L, T, OfRwLock> {
 
     /// Takes the lock to write as [`Self::write_for`] does, and waits for it until this instant.
     pub fn write_until(&self, deadline: Instant) -> Result<Option<RwLockWriteGuard<'_, L, T>>, Full>
-        ensures guard { IfOk result (λ told. IfSome told (λ guard. guard.turn.turn.lock.now ≡ self.now)) }
+        ensures guard { IfOk result (λ reply. IfSome reply (λ guard. guard.turn.turn.lock.now ≡ self.now)) }
         ensures full { IfErr result (λ full. L.is_full self.now) }
     {
         self.take_until::<OfWriter>(Deadline::At(deadline))

@@ -5,7 +5,7 @@ use Rattle.std.proofs.lemmas.List.Sums.{sum_by-cons}
 use Rattle.saa_core_spec.specs.Held.{Held, fits, plus}
 use Rattle.saa_core_spec.specs.Object.{Object, Waiter}
 use Rattle.saa_core_spec.specs.Settling.{fitting_front, plus_all, settled}
-use Rattle.saa_core_laws.specs.Laws.{IsFittingFront, StandsSettled, GrantsInTurn}
+use Rattle.saa_core_laws.specs.Laws.{IsFittingFront, IsSettledAt, GrantsInTurn}
 use Rattle.saa_core_spec.proofs.FittingFronts.{fitting_front-fits, fitting_front-blocked, fitting_front-settled}
 
 -- nobody at all is a fitting front
@@ -66,17 +66,17 @@ fitting_front-granted held (waiter ∷ line) (suc k) front =
     )
 
 -- where the fitting front is empty, nobody in front fits
-pub StandsSettled-from_front : (held : Held) (line : List Waiter) → fitting_front held line ≡ 0 → StandsSettled held line
-StandsSettled-from_front held line none k front = omega (arith, fitting_front-greatest held line k front)
+pub IsSettledAt-from_front : (held : Held) (line : List Waiter) → fitting_front held line ≡ 0 → IsSettledAt held line
+IsSettledAt-from_front held line none k front = omega (arith, fitting_front-greatest held line k front)
 
 -- where nobody in front fits, the fitting front is empty
-pub fitting_front-stands : (held : Held) (line : List Waiter) → StandsSettled held line → fitting_front held line ≡ 0
+pub fitting_front-stands : (held : Held) (line : List Waiter) → IsSettledAt held line → fitting_front held line ≡ 0
 fitting_front-stands held line stands = stands (fitting_front held line) (fitting_front-is held line)
 
 -- settling leaves nobody in front who fits
-pub StandsSettled-settled : (s : Object) → StandsSettled (settled s).held (settled s).line
+pub IsSettledAt-settled : (s : Object) → IsSettledAt (settled s).held (settled s).line
 unfolding settled
-StandsSettled-settled s = StandsSettled-from_front _ _ (fitting_front-settled s.held s.line)
+IsSettledAt-settled s = IsSettledAt-from_front _ _ (fitting_front-settled s.held s.line)
 
 -- fronts that are granted in turn, until nobody in front fits, are together the fitting front
 pub sum-granted_in_turn : (held : Held) (line : List Waiter) (ks : List ℕ) → GrantsInTurn held line ks → sum ks ≡ fitting_front held line

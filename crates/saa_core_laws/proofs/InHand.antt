@@ -233,10 +233,10 @@ grant_of-closed (Answered value request is_sync slotted) = refl
 pub unconsumed-closed : (line : List Waiter) (book : List Entry) → unconsumed (answered_in closed_value line book) ≡ unconsumed book
 unconsumed-closed [] book = refl
 unconsumed-closed (waiter ∷ line) book =
-    let told : Entry = answered_entry closed_value (entry_at book waiter.0) in
-    unconsumed-closed line (set book waiter.0 told) ∙ elim (cases_lt waiter.0 (length book)) [
-      | inl within ↦ omega (arith, unconsumed-set book waiter.0 told within, grant_of-closed (entry_at book waiter.0))
-      | inr past ↦ ap unconsumed (set_past book waiter.0 told past)
+    let closed : Entry = answered_entry closed_value (entry_at book waiter.0) in
+    unconsumed-closed line (set book waiter.0 closed) ∙ elim (cases_lt waiter.0 (length book)) [
+      | inl within ↦ omega (arith, unconsumed-set book waiter.0 closed within, grant_of-closed (entry_at book waiter.0))
+      | inr past ↦ ap unconsumed (set_past book waiter.0 closed past)
     ]
 
 -- a shut

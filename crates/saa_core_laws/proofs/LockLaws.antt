@@ -16,7 +16,7 @@ use Rattle.saa_core_spec.specs.Values.{lock_value, poisoned_value}
 use Rattle.saa_core_spec.specs.Lock.{lock_step, mode_request, new_lock, is_locked, is_poisoned, downgraded_of, poisoned_of, cleared_of}
 use Rattle.saa_core_spec.specs.Run.{IsWithin, state_after}
 use Rattle.saa_core_laws.specs.Laws.{IsLockInOrder}
-use Rattle.saa_core_laws.proofs.Fronts.{StandsSettled-from_front}
+use Rattle.saa_core_laws.proofs.Fronts.{IsSettledAt-from_front}
 use Rattle.saa_core_laws.proofs.Kept.{IsInOrder-kept, IsKept-newly_made, IsKept-held, IsKept-settled, IsKept-all_answered}
 use Rattle.saa_core_laws.proofs.Commands.{IsRight, KeepsRight, IsRight-state_after}
 use Rattle.saa_core_laws.proofs.Grants.{Grants, Grants-settled, KeepsFine, nobody-fits, IsRight-given_back, IsRight-tried, IsRightAnswer-answered, Grants-waits, IsRight-left_of, IsRight-quietly_left_of, IsRight-undone_of}
@@ -201,7 +201,7 @@ pub IsLockInOrder-right : (names : ℕ) (s : Object) → IsRight (Grants IsFineL
 IsLockInOrder-right names s right = record {
   order = IsInOrder-kept names s right.kept;
   bounded = lock-bounded s.held right.kind.fine;
-  stands = StandsSettled-from_front s.held s.line right.kind.front;
+  oldest = IsSettledAt-from_front s.held s.line right.kind.front;
   free = λ is_free. nobody-fits (OfLock Free) s.line right.kind.asks (sym (ap (λ held. fitting_front held s.line) is_free) ∙ right.kind.front);
   poisoned = λ poison. right.kind.refused (ap refuses_all poison);
 }

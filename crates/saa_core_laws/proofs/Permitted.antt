@@ -168,5 +168,5 @@ pub granted_in_books-closed : (line : List Waiter) (book : List Entry) → grant
 granted_in_books-closed line book = granted_in_books-none book (answered_in closed_value line book) (λ name.
     elim (entry_at-answered_in closed_value line book name) [
       | inl same ↦ rw same (granted_between-same (entry_at book name))
-      | inr told ↦ rw told (granted_between-closed (entry_at book name))
+      | inr closed ↦ rw closed (granted_between-closed (entry_at book name))
     ])

@@ -8,17 +8,17 @@ use Rattle.saa_core_spec.specs.Object.{Object, After, Entry, Idle, Waiting, Answ
 use Rattle.saa_core_spec.specs.Asking.{is_idle, answer_at_once, registered, registered_of}
 use Rattle.saa_core_spec.specs.Polling.{is_right_mode, polled_in, polled_of, polled, dropped_of, dropped, withdrawn_of, withdrawn}
 use Rattle.saa_core_spec.specs.Values.{granted_value}
-use Rattle.saa_core_laws.specs.Registrations.{is_registered, number_of, is_value, stands_then, is_answered}
+use Rattle.saa_core_laws.specs.Registrations.{is_registered, number_of, is_value, registered_then, is_answered}
 use Rattle.saa_core_laws.proofs.Order.{entry_at-same, entry_at-other, entry_at_past, set_past}
 use Rattle.saa_core_laws.proofs.Commands.{or_false-left}
 use Rattle.saa_core_laws.proofs.Books.{KeepsBook, KeepsBook-same, KeepsBook-left_of, KeepsBook-quietly_left_of, KeepsBook-undone_of, KeepsBook-answered}
 
 -- What one command does for one name, whether it registers it, polls a value of it or drops it
 pub record ReadsStep (name : ℕ) (before after : Object) (made : Bool) (value : Option ℕ) (gone : Bool) : Type 0 where
-  pub reads : not (is_idle (entry_at after.book name)) ≡ stands_then made (is_value value || gone) (not (is_idle (entry_at before.book name)))
+  pub reads : not (is_idle (entry_at after.book name)) ≡ registered_then made (is_value value || gone) (not (is_idle (entry_at before.book name)))
   pub size : length after.book ≡ length before.book
   pub new : made ≡ true → is_idle (entry_at before.book name) ≡ true
-  pub told : (was : ℕ) → value ≡ Some was
+  pub answer : (was : ℕ) → value ≡ Some was
       → (asked : Request) × (is_sync : Bool) × (slotted : Bool) × (entry_at before.book name ≡ Answered was asked is_sync slotted)
   pub kept : is_answered (entry_at before.book name) ≡ true → value ≡ None → gone ≡ false → entry_at after.book name ≡ entry_at before.book name
   pub unmoved : gone ≡ true → is_idle (entry_at before.book name) ≡ true → after ≡ before
@@ -29,7 +29,7 @@ ReadsStep-kept name before after keeps = record {
   reads = ap not (keeps.idle name);
   size = keeps.size;
   new = λ e. cc;
-  told = λ was e. cc;
+  answer = λ was e. cc;
   kept = λ there none still. keeps.answer name there;
   unmoved = λ e. cc;
 }
@@ -76,7 +76,7 @@ ReadsStep-other_last name other before after kept entry e keeps ne = record {
   reads = ap not (ap (λ b. is_idle (entry_at b name)) e ∙ idle-written_last before.book kept name other entry keeps ne);
   size = ap (λ (b : List Entry). length b) e ∙ length-set kept other entry ∙ keeps.size;
   new = λ e. cc;
-  told = λ was e. cc;
+  answer = λ was e. cc;
   kept = λ there none still. ap (λ b. entry_at b name) e ∙ entry_at-other kept other name entry ne ∙ keeps.answer name there;
   unmoved = λ e. cc;
 }
@@ -90,7 +90,7 @@ ReadsStep-other_first name other before after entry keeps ne =
       reads = ap not (keeps.idle name ∙ ap is_idle same);
       size = keeps.size ∙ length-set before.book other entry;
       new = λ e. cc;
-      told = λ was e. cc;
+      answer = λ was e. cc;
       kept = λ there none still. keeps.answer name (ap is_answered same ∙ there) ∙ same;
       unmoved = λ e. cc;
     }
@@ -103,7 +103,7 @@ ReadsStep-made name before after kept entry within busy idle e keeps = record {
   reads = ap not (ap (λ b. is_idle (entry_at b name)) e ∙ ap is_idle (entry_at-same kept name entry (omega (arith, keeps.size))) ∙ busy);
   size = ap (λ (b : List Entry). length b) e ∙ length-set kept name entry ∙ keeps.size;
   new = λ _. idle;
-  told = λ was e. cc;
+  answer = λ was e. cc;
   kept = λ there. absurd (is_answered-idle _ idle there);
   unmoved = λ e. cc;
 }
@@ -122,7 +122,7 @@ ReadsStep-gone name before after busy keeps = record {
   reads = ap not (keeps.idle name ∙ is_idle-emptied before.book name);
   size = keeps.size ∙ length-set before.book name Idle;
   new = λ e. cc;
-  told = λ was e. cc;
+  answer = λ was e. cc;
   kept = λ there none still. cc;
   unmoved = λ _ idle. cc;
 }
@@ -133,7 +133,7 @@ ReadsStep-idle_gone name s idle = record {
   reads = ap not idle;
   size = refl;
   new = λ e. cc;
-  told = λ was e. cc;
+  answer = λ was e. cc;
   kept = λ there none still. cc;
   unmoved = λ _ _. refl;
 }
@@ -146,7 +146,7 @@ ReadsStep-had name before after value request is_sync slotted at e = record {
   reads = ap not (ap (λ b. is_idle (entry_at b name)) e ∙ is_idle-emptied before.book name);
   size = ap (λ (b : List Entry). length b) e ∙ length-set before.book name Idle;
   new = λ e. cc;
-  told = λ was is. let same : value ≡ was = cc in (request, is_sync, slotted, rw (← same) at);
+  answer = λ was is. let same : value ≡ was = cc in (request, is_sync, slotted, rw (← same) at);
   kept = λ there none still. cc;
   unmoved = λ e. cc;
 }

@@ -31,7 +31,7 @@ use Rattle.saa_core_spec.proofs.Leaving.{withdrawn-dropped}
 use Rattle.saa_core_laws.specs.Laws.{is_waiting}
 use Rattle.saa_core_laws.specs.Registrations.{is_registered, is_answered}
 use Rattle.saa_core_laws.specs.Steps.{step_of, steps}
-use Rattle.saa_core_laws.specs.Leaders.{BarrierStep, is_arrival, is_given_up, is_leader, names_leader, barrier_run, barrier_next, told, CompletesRound, IsOfFixedSize}
+use Rattle.saa_core_laws.specs.Leaders.{BarrierStep, is_arrival, is_given_up, is_leader, names_leader, barrier_run, barrier_next, poll_reply, CompletesRound, IsOfFixedSize}
 use Rattle.saa_core_laws.proofs.Order.{IsInStep, entry_at-same, entry_at-other, length-answered_in}
 use Rattle.saa_core_laws.proofs.Kept.{IsKept, IsKept-newly_made, is_waiting-all_answered}
 use Rattle.saa_core_laws.proofs.Commands.{IsRight, IsRight-done, IsRight-state_after, or_false-left}
@@ -318,21 +318,21 @@ Completes-done size names (Drop name) s within right leads = cc
 Completes-done size names (Leave name) s within right leads = cc
 
 -- a name that is answered that it passes is told that it isn't the leader
-pub told-passed : (s : Object) (name : ℕ) (request : Request) (is_sync : Bool) → entry_at s.book name ≡ Answered passed_value request is_sync true
-    → told s name ≡ Polled (Ok false)
-told-passed s name request is_sync at =
+pub poll_reply-passed : (s : Object) (name : ℕ) (request : Request) (is_sync : Bool) → entry_at s.book name ≡ Answered passed_value request is_sync true
+    → poll_reply s name ≡ Polled (Ok false)
+poll_reply-passed s name request is_sync at =
     ap (λ (e : Entry). let reply : ReplyOf BarrierAnswer (Result Bool Error) = Polled (barrier_value (polled_of s name Try e).reply) in reply) at
 
 -- what a leader's entry reads as
-pub told-leader_entry : (s : Object) (name : ℕ) (entry : Entry) → is_leader entry ≡ true → barrier_value (polled_of s name Try entry).reply ≡ Ok true
-told-leader_entry s name Idle e = cc
-told-leader_entry s name (Waiting request is_sync) e = cc
-told-leader_entry s name (Answered value request is_sync slotted) e = ap (λ (b : Bool). let answer : Result Bool Error = Ok b in answer) e
+pub poll_reply-leader_entry : (s : Object) (name : ℕ) (entry : Entry) → is_leader entry ≡ true → barrier_value (polled_of s name Try entry).reply ≡ Ok true
+poll_reply-leader_entry s name Idle e = cc
+poll_reply-leader_entry s name (Waiting request is_sync) e = cc
+poll_reply-leader_entry s name (Answered value request is_sync slotted) e = ap (λ (b : Bool). let answer : Result Bool Error = Ok b in answer) e
 
 -- a leader is told so
-pub told-leader : (s : Object) (name : ℕ) → is_leader (entry_at s.book name) ≡ true → told s name ≡ Polled (Ok true)
-told-leader s name e =
-    ap (λ (r : Result Bool Error). let reply : ReplyOf BarrierAnswer (Result Bool Error) = Polled r in reply) (told-leader_entry s name (entry_at s.book name) e)
+pub poll_reply-leader : (s : Object) (name : ℕ) → is_leader (entry_at s.book name) ≡ true → poll_reply s name ≡ Polled (Ok true)
+poll_reply-leader s name e =
+    ap (λ (r : Result Bool Error). let reply : ReplyOf BarrierAnswer (Result Bool Error) = Polled r in reply) (poll_reply-leader_entry s name (entry_at s.book name) e)
 
 -- the entry of an arrival that leads
 pub leads-entry : (size : ℕ) (command : CommandOf BarrierCall (Unit {0})) (s : Object) (name : ℕ) (is_sync : Bool)
@@ -357,8 +357,8 @@ CompletesRound-next size room names commands next within next_within leads =
       full = completes.full;
       empty = completes.empty;
       answered = completes.others;
-      others = λ name request is_sync at. told-passed _ name request is_sync (completes.others name request is_sync at);
-      leader = λ name is_sync is. told-leader _ name (leads-entry size next _ name is_sync leads is);
+      others = λ name request is_sync at. poll_reply-passed _ name request is_sync (completes.others name request is_sync at);
+      leader = λ name is_sync is. poll_reply-leader _ name (leads-entry size next _ name is_sync leads is);
     }
 
 -- what is idle isn't answered

@@ -15,7 +15,7 @@ use Rattle.saa_core_spec.specs.Values.{semaphore_value, closed_value}
 use Rattle.saa_core_spec.specs.Semaphore.{semaphore_step, new_semaphore, is_shut, shut_of}
 use Rattle.saa_core_spec.specs.Run.{IsWithin, state_after}
 use Rattle.saa_core_laws.specs.Laws.{IsSemaphoreInOrder, IsSemaphoreWith}
-use Rattle.saa_core_laws.proofs.Fronts.{StandsSettled-from_front}
+use Rattle.saa_core_laws.proofs.Fronts.{IsSettledAt-from_front}
 use Rattle.saa_core_laws.proofs.Kept.{IsInOrder-kept, IsKept-newly_made, IsKept-held, IsKept-all_answered}
 use Rattle.saa_core_laws.proofs.Commands.{IsRight, KeepsRight, IsRight-state_after}
 use Rattle.saa_core_laws.proofs.Grants.{Grants, KeepsFine, nobody-fits, IsRight-given_back, IsRight-tried, IsRightAnswer-answered, Grants-waits, IsRight-left_of, IsRight-quietly_left_of, IsRight-undone_of}
@@ -153,7 +153,7 @@ pub IsSemaphoreInOrder-right : (most names : ℕ) (s : Object) → IsRight (Gran
 IsSemaphoreInOrder-right most names s right = record {
   order = IsInOrder-kept names s right.kept;
   bounded = semaphore-bounded most s.held right.kind.fine;
-  stands = StandsSettled-from_front s.held s.line right.kind.front;
+  oldest = IsSettledAt-from_front s.held s.line right.kind.front;
   idle = λ nothing_out. nobody-fits (OfSemaphore most 0) s.line right.kind.asks (sym (ap (λ held. fitting_front held s.line) nothing_out) ∙ right.kind.front);
   shut = λ shut. right.kind.refused (shut-refuses s.held shut);
 }

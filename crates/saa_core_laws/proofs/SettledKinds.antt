@@ -19,7 +19,7 @@ use Rattle.saa_core_spec.specs.Run.{done, state_after}
 use Rattle.saa_core_laws.specs.RunLaws.{IsSettledSemaphore, IsSettledLock}
 use Rattle.saa_core_laws.specs.Laws.{IsSemaphoreWith}
 use Rattle.saa_core_laws.proofs.SemaphoreLaws.{shut-refuses}
-use Rattle.saa_core_laws.proofs.Fronts.{StandsSettled-from_front, fitting_front-stands}
+use Rattle.saa_core_laws.proofs.Fronts.{IsSettledAt-from_front, fitting_front-stands}
 use Rattle.saa_core_laws.proofs.Grants.{KeepsFine}
 use Rattle.saa_core_laws.proofs.LockLaws.{held-poisoned}
 use Rattle.saa_core_laws.proofs.Settled.{Stands, Stands-settled, Stands-tried, Stands-given_back, Stands-done, Stands-run}
@@ -220,14 +220,14 @@ Stands-semaphore most s is =
     let fine : IsOfBound most s.held = IsOfBound-kind most is.kind.0 s.held is.kind.1 in
     record {
       fine = fine;
-      front = fitting_front-stands s.held s.line is.stands;
+      front = fitting_front-stands s.held s.line is.oldest;
       refused = λ refuses. is.shut (bound-shut most s.held fine refuses);
     }
 
 pub IsSettledSemaphore-stands : (most : ℕ) (s : Object) → Stands (IsOfBound most) s.held s.line → IsSettledSemaphore most s
 IsSettledSemaphore-stands most s stands = record {
   kind = kind-bound most s.held stands.fine;
-  stands = StandsSettled-from_front s.held s.line stands.front;
+  oldest = IsSettledAt-from_front s.held s.line stands.front;
   shut = λ shut. stands.refused (shut-refuses s.held shut);
 }
 
@@ -237,14 +237,14 @@ Stands-lock s is =
     let fine : IsAnyLock s.held = rw is.kind.1 tt in
     record {
       fine = fine;
-      front = fitting_front-stands s.held s.line is.stands;
+      front = fitting_front-stands s.held s.line is.oldest;
       refused = λ refuses. is.poisoned (any_lock-poisoned s.held fine refuses);
     }
 
 pub IsSettledLock-stands : (s : Object) → Stands IsAnyLock s.held s.line → IsSettledLock s
 IsSettledLock-stands s stands = record {
   kind = kind-any_lock s.held stands.fine;
-  stands = StandsSettled-from_front s.held s.line stands.front;
+  oldest = IsSettledAt-from_front s.held s.line stands.front;
   poisoned = λ poison. stands.refused (ap refuses_all poison);
 }
 

@@ -121,7 +121,7 @@ pub is_shut-registered_of : (s : Object) (name : ℕ) (request : Request) (is_sy
     → is_shut (registered_of s name request is_sync is_refused answer is_full).state.held ≡ true
 is_shut-registered_of s name request is_sync true answer is_full e shut = shut
 is_shut-registered_of s name request is_sync false (Some answer) is_full e shut =
-    let told : ◌≡◌ {A = Option (After ℕ)} (Some (record { state = s; reply = closed_value })) (Some answer) = sym (answer_in-shut s s.held request shut) ∙ e in
+    let closed : ◌≡◌ {A = Option (After ℕ)} (Some (record { state = s; reply = closed_value })) (Some answer) = sym (answer_in-shut s s.held request shut) ∙ e in
     let same : ◌≡◌ {A = After ℕ} (record { state = s; reply = closed_value }) answer = cc in
     ap (λ (a : After ℕ). is_shut a.state.held) (sym same) ∙ shut
 is_shut-registered_of s name request is_sync false None true e shut = shut
@@ -242,7 +242,7 @@ pub others-shut_of : (s : Object) (held : Held) (name : ℕ) → is_waiting (ent
     → entry_at (shut_of s held).state.book name ≡ entry_at s.book name
 others-shut_of s (OfSemaphore bound out) name still = elim (entry_at-answered_in closed_value s.line s.book name) [
   | inl same ↦ same
-  | inr told ↦ told ∙ answered_entry-still closed_value (entry_at s.book name) still
+  | inr closed ↦ closed ∙ answered_entry-still closed_value (entry_at s.book name) still
 ]
 others-shut_of s (OfShutSemaphore bound out) name still = refl
 others-shut_of s (OfLock lock) name still = refl

@@ -30,7 +30,7 @@ use Rattle.saa_core_spec.specs.Lock.{lock_step, mode_request}
 use Rattle.saa_core_spec.specs.Gate.{gate_step, enter_request}
 use Rattle.saa_core_spec.specs.Barrier.{barrier_step, arrive_request}
 use Rattle.saa_core_spec.specs.Run.{IsWithin, done, state_after, replies}
-use Rattle.saa_core_laws.specs.Registrations.{as_kept, registers, value_polled, drops, is_value, stands_then, stands, is_answered, Story, IsStory, found, stands_in, next_of, read_reply, AnswersOnce}
+use Rattle.saa_core_laws.specs.Registrations.{as_kept, registers, value_polled, drops, is_value, registered_then, registered_after, is_answered, Story, IsStory, found, registered_in, next_of, read_reply, AnswersOnce}
 use Rattle.saa_core_laws.proofs.Order.{set_past}
 use Rattle.saa_core_laws.proofs.Kept.{entry_at-replicate}
 use Rattle.saa_core_laws.proofs.Books.{KeepsBook, KeepsBook-same, KeepsBook-answered, KeepsBook-semaphore_step, KeepsBook-lock_step, KeepsBook-gate_step, KeepsBook-barrier_step}
@@ -72,16 +72,16 @@ module _ {C K A : Type 0} (request : K → Request) (step : C → Object → Aft
   ReadsStep-done name (Leave other) s within = ReadsStep-withdrawn name other s
 
   -- the value that is polled was there, of whatever names a command speaks
-  pub told-done : (s : Object) (command : CommandOf C K) (name value : ℕ)
+  pub answer-done : (s : Object) (command : CommandOf C K) (name value : ℕ)
       → value_polled name command (done request step as_kept command s).reply ≡ Some value
       → (asked : Request) × (is_sync : Bool) × (slotted : Bool) × (entry_at s.book name ≡ Answered value asked is_sync slotted)
-  told-done s (Call call) name value e = cc
-  told-done s (Register other ask is_sync) name value e = cc
-  told-done s (TryPoll other) name value e = (ReadsStep-polled name other s Try).told value e
-  told-done s (PollSync other) name value e = (ReadsStep-polled name other s Sync).told value e
-  told-done s (PollAsync other) name value e = (ReadsStep-polled name other s Async).told value e
-  told-done s (Drop other) name value e = cc
-  told-done s (Leave other) name value e = cc
+  answer-done s (Call call) name value e = cc
+  answer-done s (Register other ask is_sync) name value e = cc
+  answer-done s (TryPoll other) name value e = (ReadsStep-polled name other s Try).answer value e
+  answer-done s (PollSync other) name value e = (ReadsStep-polled name other s Sync).answer value e
+  answer-done s (PollAsync other) name value e = (ReadsStep-polled name other s Async).answer value e
+  answer-done s (Drop other) name value e = cc
+  answer-done s (Leave other) name value e = cc
 
   -- an answer that is there stays, of whatever names a command speaks
   pub kept-done : (s : Object) (command : CommandOf C K) (name : ℕ) → is_answered (entry_at s.book name) ≡ true
@@ -99,14 +99,14 @@ module _ {C K A : Type 0} (request : K → Request) (step : C → Object → Aft
   kept-done s (Leave other) name there none still = (ReadsStep-withdrawn name other s).kept there refl still
 
   -- a run says which names stand, from what stood before it
-  pub reads-run : (names name : ℕ) (commands : List (CommandOf C K)) (s : Object) (stood : Bool) → length s.book ≡ names
-      → AllByRecursion (IsWithin names) commands → not (is_idle (entry_at s.book name)) ≡ stood
-      → not (is_idle (entry_at (state_after request step as_kept commands s).book name)) ≡ stands name stood commands (replies request step as_kept commands s)
-  reads-run names name [] s stood size within e = e
-  reads-run names name (command ∷ commands) s stood size within e =
+  pub reads-run : (names name : ℕ) (commands : List (CommandOf C K)) (s : Object) (was_registered : Bool) → length s.book ≡ names
+      → AllByRecursion (IsWithin names) commands → not (is_idle (entry_at s.book name)) ≡ was_registered
+      → not (is_idle (entry_at (state_after request step as_kept commands s).book name)) ≡ registered_after name was_registered commands (replies request step as_kept commands s)
+  reads-run names name [] s was_registered size within e = e
+  reads-run names name (command ∷ commands) s was_registered size within e =
       let one = ReadsStep-done name command s (rw size within.0) in
       reads-run names name commands (done request step as_kept command s).state _ (one.size ∙ size) within.1
-      (one.reads ∙ ap (stands_then (registers name command (done request step as_kept command s).reply)
+      (one.reads ∙ ap (registered_then (registers name command (done request step as_kept command s).reply)
       (is_value (value_polled name command (done request step as_kept command s).reply) || drops name command)) e)
 
   -- and keeps the size of the book
@@ -118,7 +118,7 @@ module _ {C K A : Type 0} (request : K → Request) (step : C → Object → Aft
 
   -- every name that isn't idle stands
   pub reads-story : (story : Story C K) (name : ℕ) → All (IsWithin story.names) story.commands
-      → not (is_idle (entry_at (found request step story).book name)) ≡ stands_in request step story name
+      → not (is_idle (entry_at (found request step story).book name)) ≡ registered_in request step story name
   reads-story story name within =
       reads-run story.names name story.commands (newly_made story.held story.room story.names) false (length-replicate story.names Idle)
       (recursion_from_All (IsWithin story.names) story.commands within)
@@ -136,9 +136,9 @@ module _ {C K A : Type 0} (request : K → Request) (step : C → Object → Aft
       ReadsStep-done name story.next (found request step story) (rw size is.next)
 
   -- the negation of a test
-  pub stands_is_busy : (b stood : Bool) → not b ≡ stood → stood ≡ false → b ≡ true
-  stands_is_busy true stood e f = refl
-  stands_is_busy false stood e f = cc
+  pub stands_is_busy : (b was_registered : Bool) → not b ≡ was_registered → was_registered ≡ false → b ≡ true
+  stands_is_busy true was_registered e f = refl
+  stands_is_busy false was_registered e f = cc
 
   module _ {V : Type 0} (value : Result ℕ Error → V) where
     -- how a poll is read is no matter of what a command leaves
@@ -186,11 +186,11 @@ module _ {C K A : Type 0} (request : K → Request) (step : C → Object → Aft
     read = reads-story;
     registered = λ story name is e. sym (reads-story story name is.commands) ∙ ap not ((ReadsStep-next story name is).new e);
     polled = λ story name value is e.
-        let was = (ReadsStep-next story name is).told value e in
+        let was = (ReadsStep-next story name is).answer value e in
         sym (reads-story story name is.commands) ∙ not_idle-answered _ value was.0 was.1 was.2 was.3;
     dropped = λ story name is gone none.
         (ReadsStep-next story name is).unmoved gone (stands_is_busy _ _ (reads-story story name is.commands) none);
-    told = told-done;
+    answer = answer-done;
     kept = kept-done;
   }
 

@@ -29,10 +29,10 @@ use Rattle.saa_core_spec.specs.Gate.{gate_step, enter_request, new_gate}
 use Rattle.saa_core_spec.specs.Barrier.{round_of, barrier_step, arrive_request}
 use Rattle.saa_core_spec.specs.Run.{IsWithin, done, state_after}
 use Rattle.saa_core_laws.specs.RunLaws.{IsSettledSemaphore, IsSettledLock, NobodyWaits, AnswersInOrder}
-use Rattle.saa_core_laws.specs.Registrations.{Story, IsStory, found, stands_in, next_of, registers, value_polled, as_kept}
-use Rattle.saa_core_laws.specs.Leaders.{IsOfFixedSize, is_arrival, is_given_up, names_leader, completes_round, barrier_run, barrier_next, CompletesRound, told}
+use Rattle.saa_core_laws.specs.Registrations.{Story, IsStory, found, registered_in, next_of, registers, value_polled, as_kept}
+use Rattle.saa_core_laws.specs.Leaders.{IsOfFixedSize, is_arrival, is_given_up, names_leader, completes_round, barrier_run, barrier_next, CompletesRound, poll_reply}
 use Rattle.saa_core_laws.specs.Conservation.{semaphore_run, granted_by, given_back_by, released_by, taken_in_hand_by}
-use Rattle.saa_core_laws.proofs.Fronts.{StandsSettled-from_front}
+use Rattle.saa_core_laws.proofs.Fronts.{IsSettledAt-from_front}
 use Rattle.saa_core_laws.proofs.SettledKinds.{semaphore-settled_run, lock-settled_run}
 use Rattle.saa_core_laws.proofs.Waits.{semaphore-nobody_waits, free_lock-nobody_waits, poisoned_lock-nobody_waits, gate-nobody_waits}
 use Rattle.saa_core_laws.proofs.TurnsKept.{semaphore-in_turn}
@@ -53,7 +53,7 @@ used_semaphore = record {
 
 -- it is settled
 pub used_semaphore-settled : IsSettledSemaphore 5 used_semaphore
-used_semaphore-settled = record { kind = (5, inl refl); stands = StandsSettled-from_front _ _ refl; shut = λ shut. cc }
+used_semaphore-settled = record { kind = (5, inl refl); oldest = IsSettledAt-from_front _ _ refl; shut = λ shut. cc }
 
 -- two permits are given back, and then one
 abbrev two_and_one_given_back : List (CommandOf SemaphoreCall ℕ)
@@ -72,7 +72,7 @@ a_used_semaphore_stays_settled = semaphore-settled_run 5 used_semaphore two_and_
 
 -- a line of which the book knows nothing: it is settled, and stays so
 pub a_line_without_a_book_is_settled : IsSettledSemaphore 5 (record used_semaphore { book = [] })
-a_line_without_a_book_is_settled = record { kind = (5, inl refl); stands = StandsSettled-from_front _ _ refl; shut = λ shut. cc }
+a_line_without_a_book_is_settled = record { kind = (5, inl refl); oldest = IsSettledAt-from_front _ _ refl; shut = λ shut. cc }
 
 -- a lock in use, at which two wait
 abbrev used_lock : Object
@@ -86,7 +86,7 @@ used_lock = record {
 
 -- it is settled
 pub used_lock-settled : IsSettledLock used_lock
-used_lock-settled = record { kind = (Owned, refl); stands = StandsSettled-from_front _ _ refl; poisoned = λ poison. cc }
+used_lock-settled = record { kind = (Owned, refl); oldest = IsSettledAt-from_front _ _ refl; poisoned = λ poison. cc }
 
 -- it is released, and then poisoned and cleared
 abbrev released_poisoned_cleared : List (CommandOf LockCall Mode)
@@ -242,7 +242,7 @@ once_more = Register 1 Shared false
 
 -- its answer is there all the while, and is polled; then it is idle, and may register again
 pub a_poisoned_story_goes :
-    (stands_in mode_request lock_step a_poisoned_story 1 ≡ true)
+    (registered_in mode_request lock_step a_poisoned_story 1 ≡ true)
     × (entry_at (found mode_request lock_step a_poisoned_story).book 1 ≡ Answered 2 AskExclusive true true)
     × (value_polled 1 a_poisoned_story.next (next_of mode_request lock_step a_poisoned_story).reply ≡ Some 2)
     × (entry_at (next_of mode_request lock_step a_poisoned_story).state.book 1 ≡ Idle)
@@ -252,7 +252,7 @@ unfolding settled
 a_poisoned_story_goes = (refl, refl, refl, refl, refl, refl)
 
 -- a registration stands where a value is polled, as the law says it of this story
-pub a_poisoned_story_stands : stands_in mode_request lock_step a_poisoned_story 1 ≡ true
+pub a_poisoned_story_stands : registered_in mode_request lock_step a_poisoned_story 1 ≡ true
 a_poisoned_story_stands = AnswersOnce-lock.polled a_poisoned_story 1 2 a_poisoned_story-is a_poisoned_story_goes.2
 
 -- Leaders
@@ -273,8 +273,8 @@ one_gives_up-counts = (refl, refl, refl)
 pub the_next_arrival_leads :
     (names_leader (barrier_next 2 4 4 one_gives_up (Register 3 tt false)) ≡ true)
     × (entry_at (barrier_next 2 4 4 one_gives_up (Register 3 tt false)).before.book 1 ≡ Waiting Arrive true)
-    × (told (barrier_next 2 4 4 one_gives_up (Register 3 tt false)).after.state 1 ≡ Polled (Ok false))
-    × (told (barrier_next 2 4 4 one_gives_up (Register 3 tt false)).after.state 3 ≡ Polled (Ok true))
+    × (poll_reply (barrier_next 2 4 4 one_gives_up (Register 3 tt false)).after.state 1 ≡ Polled (Ok false))
+    × (poll_reply (barrier_next 2 4 4 one_gives_up (Register 3 tt false)).after.state 3 ≡ Polled (Ok true))
 unfolding settled
 the_next_arrival_leads = (refl, refl, refl, refl)
 

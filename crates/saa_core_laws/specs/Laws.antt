@@ -16,12 +16,12 @@ pub record IsFittingFront (held : Held) (line : List Waiter) (k : ℕ) : Type 0 
   pub each : (i : ℕ) (waiter : Waiter) → i < k → slice_get line i ≡ Some waiter → IsTrue (fits (plus_all held (take i line)) waiter.1)
 
 -- nobody in front fits
-abbrev pub StandsSettled : Held → List Waiter → Type 0
-StandsSettled held line = (k : ℕ) → IsFittingFront held line k → k ≡ 0
+abbrev pub IsSettledAt : Held → List Waiter → Type 0
+IsSettledAt held line = (k : ℕ) → IsFittingFront held line k → k ≡ 0
 
--- fitting fronts of these lengths are granted one after another, and then the line stands settled
+-- fitting fronts of these lengths are granted one after another, and then the line is settled
 abbrev pub GrantsInTurn : Held → List Waiter → List ℕ → Type 0
-GrantsInTurn held line [] = StandsSettled held line
+GrantsInTurn held line [] = IsSettledAt held line
 GrantsInTurn held line (k ∷ ks) = IsFittingFront held line k × GrantsInTurn (plus_all held (take k line)) (drop k line) ks
 
 -- whether an entry waits
@@ -41,19 +41,19 @@ pub record IsInOrder (s : Object) : Type 0 where
 abbrev pub IsSemaphoreWith : (bound out : ℕ) → Held → Type 0
 IsSemaphoreWith bound out held = (held ≡ OfSemaphore bound out) ⊎ (held ≡ OfShutSemaphore bound out)
 
--- a semaphore in order: it keeps its bound, stands settled, and nobody waits while nothing is out, or once it is shut
+-- a semaphore in order: it keeps its bound, is settled, and nobody waits while nothing is out, or once it is shut
 pub record IsSemaphoreInOrder (bound : ℕ) (s : Object) : Type 0 where
   pub order : IsInOrder s
   pub bounded : (out : ℕ) × IsSemaphoreWith bound out s.held × (out ≤ bound)
-  pub stands : StandsSettled s.held s.line
+  pub oldest : IsSettledAt s.held s.line
   pub idle : s.held ≡ OfSemaphore bound 0 → s.line ≡ []
   pub shut : is_shut s.held ≡ true → s.line ≡ []
 
--- a lock in order: it stands settled, and nobody waits while it is free or poisoned
+-- a lock in order: it is settled, and nobody waits while it is free or poisoned
 pub record IsLockInOrder (s : Object) : Type 0 where
   pub order : IsInOrder s
   pub bounded : (lock : LockState) × (s.held ≡ OfLock lock) × IsLockState lock
-  pub stands : StandsSettled s.held s.line
+  pub oldest : IsSettledAt s.held s.line
   pub free : s.held ≡ OfLock Free → s.line ≡ []
   pub poisoned : s.held ≡ OfLock Poisoned → s.line ≡ []
 

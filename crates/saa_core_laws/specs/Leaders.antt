@@ -112,8 +112,8 @@ barrier_next size room names commands next =
     (state_after arrive_request barrier_step barrier_value commands (newly_made (OfBarrier size 0 0) room names))
 
 -- what a try to poll a name is answered
-abbrev pub told : Object → ℕ → ReplyOf BarrierAnswer (Result Bool Error)
-told s name = (done arrive_request barrier_step barrier_value (TryPoll name) s).reply
+abbrev pub poll_reply : Object → ℕ → ReplyOf BarrierAnswer (Result Bool Error)
+poll_reply s name = (done arrive_request barrier_step barrier_value (TryPoll name) s).reply
 
 -- What a leader's arrival does: its round is complete with it, and nobody waits afterwards. Each of the others, all who
 -- waited, is answered that it passes, and told that it isn't the leader; the one that arrived is told that it is
@@ -123,5 +123,5 @@ pub record CompletesRound (size : ℕ) (step : BarrierStep) : Type 0 where
   pub answered : (name : ℕ) (request : Request) (is_sync : Bool) → entry_at step.before.book name ≡ Waiting request is_sync
       → entry_at step.after.state.book name ≡ Answered passed_value request is_sync true
   pub others : (name : ℕ) (request : Request) (is_sync : Bool) → entry_at step.before.book name ≡ Waiting request is_sync
-      → told step.after.state name ≡ Polled (Ok false)
-  pub leader : (name : ℕ) (is_sync : Bool) → step.command ≡ Register name tt is_sync → told step.after.state name ≡ Polled (Ok true)
+      → poll_reply step.after.state name ≡ Polled (Ok false)
+  pub leader : (name : ℕ) (is_sync : Bool) → step.command ≡ Register name tt is_sync → poll_reply step.after.state name ≡ Polled (Ok true)

@@ -17,7 +17,7 @@ use Rattle.saa_core_spec.specs.Run.{IsWithin, done, replies, state_after}
 abbrev pub as_kept : Result ℕ Error → Result ℕ Error
 as_kept answer = answer
 
--- whether a registration is answered that it stands: `Ok(true)`
+-- whether a registration is answered that it was made: `Ok(true)`
 abbrev pub is_registered : Result Bool Full → Bool
 is_registered (Ok is_so) = is_so
 is_registered (Err full) = false
@@ -50,19 +50,19 @@ abbrev pub is_value : Option ℕ → Bool
 is_value (Some value) = true
 is_value None = false
 
--- whether a registration stands once it was made, or taken away, or neither
-abbrev pub stands_then : (is_made is_taken stood : Bool) → Bool
-stands_then true is_taken stood = true
-stands_then false true stood = false
-stands_then false false stood = stood
+-- whether a name is registered once a registration was made, or taken away, or neither
+abbrev pub registered_then : (is_made is_taken was_registered : Bool) → Bool
+registered_then true is_taken was_registered = true
+registered_then false true was_registered = false
+registered_then false false was_registered = was_registered
 
--- Whether a registration of a name stands after a run, read off its commands and replies alone: it stands since it was
+-- Whether a name is registered after a run, read off its commands and replies alone: it is since a registration was
 -- answered `Ok(true)`, until a poll has its value or it is dropped
-abbrev pub stands : {C K A : Type 0} → ℕ → (stood : Bool) → List (CommandOf C K) → List (ReplyOf A (Result ℕ Error)) → Bool
-stands name stood [] _ = stood
-stands name stood (command ∷ commands) [] = stood
-stands name stood (command ∷ commands) (reply ∷ others) =
-    stands name (stands_then (registers name command reply) (is_value (value_polled name command reply) || drops name command) stood) commands others
+abbrev pub registered_after : {C K A : Type 0} → ℕ → (was_registered : Bool) → List (CommandOf C K) → List (ReplyOf A (Result ℕ Error)) → Bool
+registered_after name was_registered [] _ = was_registered
+registered_after name was_registered (command ∷ commands) [] = was_registered
+registered_after name was_registered (command ∷ commands) (reply ∷ others) =
+    registered_after name (registered_then (registers name command reply) (is_value (value_polled name command reply) || drops name command) was_registered) commands others
 
 -- whether an entry is an answer that is there
 abbrev pub is_answered : Entry → Bool
@@ -87,10 +87,10 @@ pub record IsStory (C K : Type 0) (story : Story C K) : Type 0 where
 abbrev pub found : {C K A : Type 0} → (K → Request) → (C → Object → After A) → Story C K → Object
 found request step story = state_after request step as_kept story.commands (newly_made story.held story.room story.names)
 
--- whether a registration of a name stands there, by what was commanded and replied until then
-abbrev pub stands_in : {C K A : Type 0} → (K → Request) → (C → Object → After A) → Story C K → ℕ → Bool
-stands_in request step story name =
-    stands name false story.commands (replies request step as_kept story.commands (newly_made story.held story.room story.names))
+-- whether a name is registered there, by what was commanded and replied until then
+abbrev pub registered_in : {C K A : Type 0} → (K → Request) → (C → Object → After A) → Story C K → ℕ → Bool
+registered_in request step story name =
+    registered_after name false story.commands (replies request step as_kept story.commands (newly_made story.held story.room story.names))
 
 -- what the next command of a story leaves and replies
 abbrev pub next_of : {C K A : Type 0} → (K → Request) → (C → Object → After A) → Story C K → After (ReplyOf A (Result ℕ Error))
@@ -110,21 +110,21 @@ pub record AnswersOnce (C K A V : Type 0) (request : K → Request) (step : C �
       → replies request step value commands s ≡ map (read_reply value) (replies request step as_kept commands s)
   pub same_states : (s : Object) (commands : List (CommandOf C K))
       → state_after request step value commands s ≡ state_after request step as_kept commands s
-  -- a name isn't idle exactly where its commands and replies say that a registration stands
+  -- a name isn't idle exactly where its commands and replies say that it is registered
   pub read : (story : Story C K) (name : ℕ) → All (IsWithin story.names) story.commands
-      → not (is_idle (entry_at (found request step story).book name)) ≡ stands_in request step story name
-  -- a registration is answered `Ok(true)` only where none stands
+      → not (is_idle (entry_at (found request step story).book name)) ≡ registered_in request step story name
+  -- a registration is answered `Ok(true)` only where there is none
   pub registered : (story : Story C K) (name : ℕ) → IsStory C K story
-      → registers name story.next (next_of request step story).reply ≡ true → stands_in request step story name ≡ false
-  -- a value is polled only where a registration stands
+      → registers name story.next (next_of request step story).reply ≡ true → registered_in request step story name ≡ false
+  -- a value is polled only where a name is registered
   pub polled : (story : Story C K) (name value : ℕ) → IsStory C K story
-      → value_polled name story.next (next_of request step story).reply ≡ Some value → stands_in request step story name ≡ true
-  -- a drop where none stands does nothing
+      → value_polled name story.next (next_of request step story).reply ≡ Some value → registered_in request step story name ≡ true
+  -- a drop of a name that isn't registered does nothing
   pub dropped : (story : Story C K) (name : ℕ) → IsStory C K story
-      → drops name story.next ≡ true → stands_in request step story name ≡ false
+      → drops name story.next ≡ true → registered_in request step story name ≡ false
       → (next_of request step story).state ≡ found request step story
   -- The value that is polled is the answer that was there. This and the next are so of every object, reached or not
-  pub told : (s : Object) (command : CommandOf C K) (name value : ℕ)
+  pub answer : (s : Object) (command : CommandOf C K) (name value : ℕ)
       → value_polled name command (done request step as_kept command s).reply ≡ Some value
       → (asked : Request) × (is_sync : Bool) × (slotted : Bool) × (entry_at s.book name ≡ Answered value asked is_sync slotted)
   -- an answer that is there stays as it is under every command but a poll that has it and a drop

@@ -35,7 +35,7 @@ ghost use Rattle.saa_core_spec.specs.Lock.{lock_step, mode_request, new_lock};
 ghost use Rattle.saa_core_spec.specs.Gate.{gate_step, enter_request, new_gate};
 ghost use Rattle.saa_core_spec.specs.Barrier.{round_of, barrier_step, arrive_request};
 ghost use Rattle.saa_core_spec.specs.Run.{IsWithin, done, state_after};
-ghost use Rattle.saa_core_laws.specs.Laws.{is_waiting, IsFittingFront, StandsSettled, GrantsInTurn, IsSemaphoreInOrder, IsLockInOrder, IsGateInOrder, IsBarrierInOrder, IsOpenBarrier};
+ghost use Rattle.saa_core_laws.specs.Laws.{is_waiting, IsFittingFront, IsSettledAt, GrantsInTurn, IsSemaphoreInOrder, IsLockInOrder, IsGateInOrder, IsBarrierInOrder, IsOpenBarrier};
 ghost use Rattle.saa_core_laws.specs.RunLaws.{IsSettledSemaphore, IsSettledLock, NobodyWaits, AnswersInOrder};
 ghost use Rattle.saa_core_laws.specs.Registrations.{AnswersOnce, is_answered};
 ghost use Rattle.saa_core_laws.specs.Leaders.{IsOfFixedSize, is_arrival, is_given_up, names_leader, completes_round, LetsAllPass, barrier_run, barrier_next, CompletesRound};
@@ -53,14 +53,14 @@ pub fn settling()
     ensures fits { (held : Held) (line : List Waiter) → IsFittingFront held line (fitting_front held line) }
     ensures greatest { (held : Held) (line : List Waiter) (k : ℕ)
         → IsFittingFront held line k → k ≤ fitting_front held line }
-    ensures settled { (s : Object) → StandsSettled (settled s).held (settled s).line }
+    ensures settled { (s : Object) → IsSettledAt (settled s).held (settled s).line }
     ensures in_turn { (held : Held) (line : List Waiter) (ks : List ℕ)
         → GrantsInTurn held line ks → sum ks ≡ fitting_front held line }
 {}
 
 /// Every run of a newly made semaphore leaves it in order.
 ///
-/// The line holds exactly the names that wait, each once, beside each what its entry waits for; it stands
+/// The line holds exactly the names that wait, each once, beside each what its entry waits for; it is
 /// settled; nobody waits while nothing is out; and no more slots are held than there is room.
 pub fn semaphore_runs()
     ensures { (bound permits room names : ℕ) (commands : List (CommandOf SemaphoreCall ℕ))
@@ -167,9 +167,9 @@ pub fn answers_in_order()
 
 /// A registration is answered at most once, and its answer is consumed at most once, in each of the four primitives.
 ///
-/// Which names are registered can be read off the commands and replies of a run alone: a registration stands since it
-/// was answered `Ok(true)`, until a poll has its value or it is dropped. None is made where one stands, no value is polled
-/// where none does, and an answer that is there stays as it is until then, whatever is called.
+/// Which names are registered can be read off the commands and replies of a run alone: a name is registered since it
+/// was answered `Ok(true)`, until a poll has its value or it is dropped. None is made where there is one, no value is polled
+/// where it isn't, and an answer that is there stays as it is until then, whatever is called.
 pub fn answers_once()
     ensures semaphore { AnswersOnce SemaphoreCall ℕ SemaphoreAnswer (Result (Unit {0}) Error) Permits semaphore_step semaphore_value }
     ensures lock { AnswersOnce LockCall Mode LockAnswer (Result Bool Error) mode_request lock_step lock_value }
@@ -203,7 +203,7 @@ pub fn permits_conserved()
 /// A semaphore is shut for good: with it every waiter is answered Closed, once, and nothing is granted from then on.
 ///
 /// `answered`, `others`: it answers all waiters, after every run, and changes no other entry. `for_good`: no list of commands opens
-/// it. `refused`, `told`: from then on every try is false and changes nothing, and every registration of an idle name that doesn't
+/// it. `refused`, `closed`: from then on every try is false and changes nothing, and every registration of an idle name that doesn't
 /// ask for more than there ever is has its answer at once, takes no slot and changes nothing else. `given_back`: what is out
 /// comes back as ever. That nobody waits there is [`nobody_waits_for_nothing`]'s.
 pub fn shutting()
@@ -220,7 +220,7 @@ pub fn shutting()
         → is_shut (state_after Permits semaphore_step semaphore_value commands s).held ≡ true }
     ensures refused { (s : Object) (request : Request)
         → is_shut s.held ≡ true → tried s request ≡ record { state = s; reply = false } }
-    ensures told { (s : Object) (name n : ℕ) (is_sync : Bool)
+    ensures closed { (s : Object) (name n : ℕ) (is_sync : Bool)
         → is_shut s.held ≡ true → entry_at s.book name ≡ Idle → n ≤ bound_of s.held
         → registered s name (Permits n) is_sync
         ≡ record { state = with_entry s name (Answered closed_value (Permits n) is_sync false); reply = Ok true } }

@@ -9,9 +9,9 @@ use Rattle.saa_core_waits.specs.declared.waitable.CallStart.{CallStart}
 use Rattle.saa_core_waits.specs.declared.waitable.CallStart.TheVariants.{Refused, Answered, Joined}
 
 -- the error that a reading is, by the error in place of its number, if there is one; that a semaphore was shut is no error of a poll
-abbrev pub told_fault : Option Error → Option Error
-told_fault None = None
-told_fault (Some error) = why_none error
+abbrev pub poll_fault : Option Error → Option Error
+poll_fault None = None
+poll_fault (Some error) = why_none error
 
 -- how a call begins whose first poll says this
 abbrev pub start_of : Result ℕ Error → CallStart
@@ -28,9 +28,9 @@ module _ {Registration : Type 0} where
   -- A call begins with a registration, and a poll where that is true
   pub record HasStarted (Registers : Registration → Registration → Result Bool Full → Type 0) (Polls : Registration → Registration → Result ℕ Error → Type 0) (old new : Registration) (start : Result CallStart Full) : Type 0 where
     pub between : Registration
-    pub told : Result Bool Full
-    pub registered : Registers old between told
-    pub started : StartsAs Polls told between new start
+    pub reply : Result Bool Full
+    pub registered : Registers old between reply
+    pub started : StartsAs Polls reply between new start
 
   -- what is left to do where a last poll says this: where it has no answer, a cancel
   abbrev pub CancelsUnanswered : (Registration → Registration → Type 0) → Result ℕ Error → Registration → Registration → Type 0
@@ -73,7 +73,7 @@ module _ {Registration : Type 0} where
     pub there : is_some (at_once old) ≡ true → is_not_ready fault ≡ false
 
 -- A poll is told what a number reads as, or why there is none; a number came as the primitive says. One that was answered at once is told its own number
-pub record IsTold {A : Type 0} (at_once : Option ℕ) (answers : ℕ → Type 0) (reading : Result ℕ Error → A) (fault : A → Option Error) (answer : A) : Type 0 where
+pub record ReadsAs {A : Type 0} (at_once : Option ℕ) (answers : ℕ → Type 0) (reading : Result ℕ Error → A) (fault : A → Option Error) (answer : A) : Type 0 where
   pub number : Result ℕ Error
   pub own : IfSome at_once (λ kept. IfOk number (λ value. value ≡ kept))
   pub came : IfOk number answers

@@ -8,7 +8,7 @@ ghost use Rattle.futures.specs.Poll.{IfReady, OnPending};
 ghost use Rattle.futures.specs.Task.{IsArmed, Keeps};
 ghost use Rattle.saa_core_spec.specs.declared.polling.How.TheVariants.{Async, Sync, Try};
 ghost use Rattle.saa_core_spec.specs.Errors.{is_not_ready};
-ghost use Rattle.saa_core_waits.specs.Waits.{HasPolled, IsTold};
+ghost use Rattle.saa_core_waits.specs.Waits.{HasPolled, ReadsAs};
 
 use crate::deadline::Deadline;
 use crate::sync_result::{SyncResult, Timed};
@@ -67,7 +67,7 @@ impl<'s, S: SyncResult<T>, T: Drop> Pager<'s, S, T> {
     /// mode. May wait for the lock.
     pub fn try_poll(&mut self) -> S::Result
         ensures polled { HasPolled S.is_busy S.is_wrong_mode S.at_once Try self.old self.new (S.fault result) }
-        ensures told { IsTold (S.at_once self.old) (S.answers self.old) S.reading S.fault result }
+        ensures answer { ReadsAs (S.at_once self.old) (S.answers self.old) S.reading S.fault result }
     {
         self.poll(How::Try)
     }
@@ -80,7 +80,7 @@ impl<'s, S: SyncResult<T>, T: Drop> Pager<'s, S, T> {
     /// `WrongMode`, nor by `NotReady`.
     pub fn poll_sync(&mut self) -> S::Result
         ensures polled { HasPolled S.is_busy S.is_wrong_mode S.at_once Sync self.old self.new (S.fault result) }
-        ensures told { IsTold (S.at_once self.old) (S.answers self.old) S.reading S.fault result }
+        ensures answer { ReadsAs (S.at_once self.old) (S.answers self.old) S.reading S.fault result }
         ensures waited { is_not_ready (S.fault result) ≡ false }
     {
         self.poll(How::Sync)
@@ -137,7 +137,7 @@ impl<'s, S: SyncResult<T>, T: Drop> Pager<'s, S, T> {
     /// One poll, in this way; an unregistered pager is answered without its primitive. Its other calls choose the way by their names.
     pub fn poll(&mut self, how: How) -> S::Result
         ensures polled { HasPolled S.is_busy S.is_wrong_mode S.at_once how self.old self.new (S.fault result) }
-        ensures told { IsTold (S.at_once self.old) (S.answers self.old) S.reading S.fault result }
+        ensures answer { ReadsAs (S.at_once self.old) (S.answers self.old) S.reading S.fault result }
         ensures waited { how ≡ Sync → is_not_ready (S.fault result) ≡ false }
     {
         let Some(primitive) = self.at else {
@@ -153,7 +153,7 @@ impl<'s, S: SyncResult<T>, T: Drop> Pager<'s, S, T> {
     // One poll for a task; an unregistered pager is answered without its primitive.
     fn poll_task(&mut self, cx: &mut Context<'_>) -> Poll<S::Result>
         ensures ready { IfReady result (λ answer. HasPolled S.is_busy S.is_wrong_mode S.at_once Async self.old self.new (S.fault answer)) }
-        ensures told { IfReady result (λ answer. IsTold (S.at_once self.old) (S.answers self.old) S.reading S.fault answer) }
+        ensures answer { IfReady result (λ answer. ReadsAs (S.at_once self.old) (S.answers self.old) S.reading S.fault answer) }
         ensures waited { IfReady result (λ answer. is_not_ready (S.fault answer) ≡ false) }
         ensures pending { OnPending result (self.new ≡ self.old) }
         ensures armed { OnPending result (IsArmed cx.new) }
@@ -176,7 +176,7 @@ impl<S: Timed<T>, T: Drop> Pager<'_, S, T> {
     /// `None`: time is up; the pager stays registered, and may be polled again.
     pub fn poll_sync_for(&mut self, duration: Duration) -> Option<S::Result>
         ensures polled { IfSome result (λ answer. HasPolled S.is_busy S.is_wrong_mode S.at_once Sync self.old self.new (S.fault answer)) }
-        ensures told { IfSome result (λ answer. IsTold (S.at_once self.old) (S.answers self.old) S.reading S.fault answer) }
+        ensures answer { IfSome result (λ answer. ReadsAs (S.at_once self.old) (S.answers self.old) S.reading S.fault answer) }
         ensures waited { IfSome result (λ answer. is_not_ready (S.fault answer) ≡ false) }
         ensures late { IsNone result → self.new ≡ self.old }
     {
@@ -189,7 +189,7 @@ impl<S: Timed<T>, T: Drop> Pager<'_, S, T> {
     /// Waits for the answer as [`Self::poll_sync_for`] does, until this instant.
     pub fn poll_sync_until(&mut self, deadline: Instant) -> Option<S::Result>
         ensures polled { IfSome result (λ answer. HasPolled S.is_busy S.is_wrong_mode S.at_once Sync self.old self.new (S.fault answer)) }
-        ensures told { IfSome result (λ answer. IsTold (S.at_once self.old) (S.answers self.old) S.reading S.fault answer) }
+        ensures answer { IfSome result (λ answer. ReadsAs (S.at_once self.old) (S.answers self.old) S.reading S.fault answer) }
         ensures waited { IfSome result (λ answer. is_not_ready (S.fault answer) ≡ false) }
         ensures late { IsNone result → self.new ≡ self.old }
     {
@@ -199,7 +199,7 @@ impl<S: Timed<T>, T: Drop> Pager<'_, S, T> {
     // A poll as sync, which ends in time; an unregistered pager is answered without its primitive.
     fn poll_by(&mut self, deadline: Deadline) -> Option<S::Result>
         ensures polled { IfSome result (λ answer. HasPolled S.is_busy S.is_wrong_mode S.at_once Sync self.old self.new (S.fault answer)) }
-        ensures told { IfSome result (λ answer. IsTold (S.at_once self.old) (S.answers self.old) S.reading S.fault answer) }
+        ensures answer { IfSome result (λ answer. ReadsAs (S.at_once self.old) (S.answers self.old) S.reading S.fault answer) }
         ensures waited { IfSome result (λ answer. is_not_ready (S.fault answer) ≡ false) }
         ensures late { IsNone result → self.new ≡ self.old }
     {
@@ -242,7 +242,7 @@ impl<'p, 's, S: SyncResult<T>, T: Drop> Future for PollPager<'p, 's, S, T> {
     type Output = S::Result;
 
     // What a poll as async is told, which isn't `NotReady`.
-    ghost gives = { λ future answer. IsTold (S.at_once future.pager.now) (S.answers future.pager.now) S.reading S.fault answer
+    ghost gives = { λ future answer. ReadsAs (S.at_once future.pager.now) (S.answers future.pager.now) S.reading S.fault answer
         × (is_not_ready (S.fault answer) ≡ false) × ((left : T) × HasPolled S.is_busy S.is_wrong_mode S.at_once Async future.pager.now left (S.fault answer)) };
 
     fn poll(&mut self, cx: &mut Context<'_>) -> Poll<S::Result> {

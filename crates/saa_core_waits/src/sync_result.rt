@@ -10,7 +10,7 @@ ghost use Rattle.saa_core_spec.specs.declared.polling.Error.{Error};
 ghost use Rattle.saa_core_spec.specs.declared.polling.How.{How};
 ghost use Rattle.saa_core_spec.specs.declared.polling.How.TheVariants.{Async, Sync};
 ghost use Rattle.saa_core_spec.specs.Errors.{error_of, is_not_ready};
-ghost use Rattle.saa_core_waits.specs.Waits.{HasPolled, IsTold, told_fault};
+ghost use Rattle.saa_core_waits.specs.Waits.{HasPolled, ReadsAs, poll_fault};
 
 use crate::deadline::Deadline;
 use futures::task::{Context, Poll};
@@ -72,7 +72,7 @@ pub trait SyncResult<T: Drop>: Sized {
     fn to_result(value: u8, pager_error: Option<Error>) -> Self::Result
         requires { pager_error ≡ None → is_value value }
         ensures answer { result ≡ answer value pager_error }
-        ensures fault { (pager_error ≡ None → is_answer value) → fault result ≡ told_fault pager_error };
+        ensures fault { (pager_error ≡ None → is_answer value) → fault result ≡ poll_fault pager_error };
 
     /// What a poll answers, by the number that the primitive answered, or by why there is none.
     fn read(polled: Result<u8, Error>) -> Self::Result
@@ -100,7 +100,7 @@ pub trait SyncResult<T: Drop>: Sized {
     fn take(&self, registration: &mut T, how: How) -> Self::Result
         requires { admits self.now registration.old }
         ensures polled { HasPolled is_busy is_wrong_mode at_once how registration.old registration.new (fault result) }
-        ensures told { IsTold (at_once registration.old) (answers registration.old) reading fault result }
+        ensures answer { ReadsAs (at_once registration.old) (answers registration.old) reading fault result }
         ensures waited { how ≡ Sync → is_not_ready (fault result) ≡ false }
         ensures admitted { admits self.now registration.new };
 
@@ -112,7 +112,7 @@ pub trait SyncResult<T: Drop>: Sized {
     fn poll_task(&self, registration: &mut T, cx: &mut Context<'_>) -> Poll<Self::Result>
         requires { admits self.now registration.old }
         ensures ready { IfReady result (λ answer. HasPolled is_busy is_wrong_mode at_once Async registration.old registration.new (fault answer)) }
-        ensures told { IfReady result (λ answer. IsTold (at_once registration.old) (answers registration.old) reading fault answer) }
+        ensures answer { IfReady result (λ answer. ReadsAs (at_once registration.old) (answers registration.old) reading fault answer) }
         ensures waited { IfReady result (λ answer. is_not_ready (fault answer) ≡ false) }
         ensures pending { OnPending result (registration.new ≡ registration.old) }
         ensures armed { OnPending result (IsArmed cx.new) }
@@ -139,7 +139,7 @@ pub trait Timed<T: Drop>: SyncResult<T> {
     fn take_until(&self, registration: &mut T, deadline: Deadline) -> Option<Self::Result>
         requires { Self.admits self.now registration.old }
         ensures polled { IfSome result (λ answer. HasPolled Self.is_busy Self.is_wrong_mode Self.at_once Sync registration.old registration.new (Self.fault answer)) }
-        ensures told { IfSome result (λ answer. IsTold (Self.at_once registration.old) (Self.answers registration.old) Self.reading Self.fault answer) }
+        ensures answer { IfSome result (λ answer. ReadsAs (Self.at_once registration.old) (Self.answers registration.old) Self.reading Self.fault answer) }
         ensures waited { IfSome result (λ answer. is_not_ready (Self.fault answer) ≡ false) }
         ensures late { IsNone result → registration.new ≡ registration.old }
         ensures admitted { Self.admits self.now registration.new };

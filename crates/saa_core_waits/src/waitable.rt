@@ -170,8 +170,8 @@ pub trait Pends: Waitable {
     ) -> (Poll<Result<Option<u8>, Full>>, bool)
         requires admitted { admits_pending self.now pending.old }
         requires unended { has_ended pending.old ≡ false }
-        ensures answered { IfReady result.0 (λ told. IfOk told (answers self.now pending.old)) }
-        ensures full { IfReady result.0 (λ told. IfErr told (λ full. refuses self.now)) }
+        ensures answered { IfReady result.0 (λ reply. IfOk reply (answers self.now pending.old)) }
+        ensures full { IfReady result.0 (λ reply. IfErr reply (λ full. refuses self.now)) }
         ensures same { OnPending result.0 ((answer : Option ℕ) → answers self.now pending.new answer → answers self.now pending.old answer) }
         ensures armed { OnPending result.0 (IsArmed cx.new) }
         ensures heard { OnPending result.0 (Hears cx.new (source self.now)) }

@@ -67,6 +67,6 @@ pub busy-refused : (invariant_of : Object → Type 0) (request : Request) (is_sy
     → is_busy ticket ≡ true → HasStarted (IsRegistered invariant_of request is_sync) (IsPolled Sync) ticket ticket (Ok Refused)
 busy-refused invariant_of request is_sync Unregistered busy = cc
 busy-refused invariant_of request is_sync (AtOnce value asked was_sync) busy =
-    record { between = AtOnce value asked was_sync; told = Ok false; registered = record { busy = refl; mode = λ idle yes. cc; sure = λ idle never. cc }; started = (refl, refl) }
+    record { between = AtOnce value asked was_sync; reply = Ok false; registered = record { busy = refl; mode = λ idle yes. cc; sure = λ idle never. cc }; started = (refl, refl) }
 busy-refused invariant_of request is_sync (InSlot slot asked was_sync) busy =
-    record { between = InSlot slot asked was_sync; told = Ok false; registered = record { busy = refl; mode = λ idle yes. cc; sure = λ idle never. cc }; started = (refl, refl) }
+    record { between = InSlot slot asked was_sync; reply = Ok false; registered = record { busy = refl; mode = λ idle yes. cc; sure = λ idle never. cc }; started = (refl, refl) }

@@ -71,11 +71,11 @@ impl Hint {
 
     /// Tells what a call spent that is about to block at the mutex. It is told before, so that a test can hold the mutex until then.
     pub(crate) fn block(&self, spent: &Spent) {
-        let (tries, spins, yields) = spent.told();
+        let (tries, spins, yields) = spent.counts();
         let tried = tries.wrapping_mul(TRY);
         let yielded = yields.wrapping_mul(TRIER_YIELD);
-        let told = spins.wrapping_add(tried).wrapping_add(yielded);
-        self.blocked.fetch_add(told, Ordering::SeqCst);
+        let sum = spins.wrapping_add(tried).wrapping_add(yielded);
+        self.blocked.fetch_add(sum, Ordering::SeqCst);
     }
 
     /// Whether a call looks.
@@ -103,7 +103,7 @@ impl Hint {
 
     /// Ends to look, after so many looks and rests. A call that was let in at its first look has no rest to tell.
     pub(crate) fn depart(&self, spent: &Spent) {
-        let (looks, spins, yields) = spent.told();
+        let (looks, spins, yields) = spent.counts();
         let rests = spins.wrapping_add(yields.wrapping_mul(YIELD));
         if rests != 0 {
             self.rests.fetch_add(rests, Ordering::SeqCst);

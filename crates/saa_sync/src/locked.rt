@@ -91,7 +91,7 @@ impl<P: Primitive> Locked<P> {
     pub(crate) fn wakes_from(&mut self, slot: u16) -> Wakes
         ensures first { result.first.slot ≡ slot }
         ensures second { slice_get (P.core self.old.core).slots.pending_wakes 0 ≡ slot_woken result.second }
-        ensures told { P.core self.new.core ≡ record (P.core self.old.core) { slots = wake_taken (P.core self.old.core).slots } }
+        ensures taken { P.core self.new.core ≡ record (P.core self.old.core) { slots = wake_taken (P.core self.old.core).slots } }
     {
         let first = self.wake_at(slot);
         let second = match self.core.next_answered() {

@@ -130,9 +130,9 @@ impl<R: Wait + Drop, const MAX: usize> Form<R, SemaphoreCoreOf<MAX>> {
         &self,
         count: usize,
     ) -> Result<Option<PermitOf<'_, R, MAX>>, AcquireError>
-        ensures semaphore { IfOk result (λ told. IfSome told (λ permits. permits.holder.now ≡ self.now)) }
-        ensures count { IfOk result (λ told. IfSome told (λ permits. permits.count ≡ count)) }
-        ensures answer { IfOk result (λ told. IsSome told ↔ (count ≤ MAX)) }
+        ensures semaphore { IfOk result (λ reply. IfSome reply (λ permits. permits.holder.now ≡ self.now)) }
+        ensures count { IfOk result (λ reply. IfSome reply (λ permits. permits.count ≡ count)) }
+        ensures answer { IfOk result (λ reply. IsSome reply ↔ (count ≤ MAX)) }
     {
         PermitFrom::acquire(self, count)
     }

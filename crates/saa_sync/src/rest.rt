@@ -69,7 +69,7 @@ impl Spent {
     }
 
     /// How often it looked, how many spin hints it gave, and how often it yielded.
-    pub(crate) fn told(&self) -> (u64, u64, u64) {
+    pub(crate) fn counts(&self) -> (u64, u64, u64) {
         (
             u64::from(self.looks),
             u64::from(self.spins),

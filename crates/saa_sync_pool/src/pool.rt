@@ -202,9 +202,9 @@ impl<'r, R: Wait + Clock, T: Drop, const MAX: usize> Pool<'r, R, T, MAX> {
     // Takes a value by a permit that was granted in time.
     fn take_in_time<'p>(
         &'p self,
-        told: Result<Option<PermitOf<'p, &'r R, MAX>>, AcquireError>,
+        reply: Result<Option<PermitOf<'p, &'r R, MAX>>, AcquireError>,
     ) -> Result<Checkout<'p, 'r, R, T, MAX>, Refused> {
-        match told {
+        match reply {
             Ok(Some(permit)) => self.take(permit),
             Ok(None) => {
                 self.shelf.lock(self.rt).note_timed_out();

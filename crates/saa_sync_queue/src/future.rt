@@ -86,12 +86,12 @@ impl<'q, R: Wait + Drop, T: Drop, const MAX: usize> Future
     ghost needs = { λ future source. source ≡ source_of future.place.semaphore };
 
     fn poll(&mut self, cx: &mut Context<'_>) -> Poll<Result<(), PushError<T>>> {
-        let told = ready!(self.place.poll(cx));
+        let reply = ready!(self.place.poll(cx));
         let Some(item) = self.item.take() else {
             // Never: the item goes with the end, and an ended wait isn't ready again.
             return cx.yield_now();
         };
-        match told {
+        match reply {
             Ok(Some(place)) => Poll::Ready(self.queue.put(place, item)),
             // Never: one permit is no more than `MAX`.
             Ok(None) => Poll::Ready(Err(PushError::WouldWait(item))),

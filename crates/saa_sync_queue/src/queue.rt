@@ -213,12 +213,12 @@ impl<R: Wait + Clock + Drop, T: Drop, const MAX: usize> Queue<R, T, MAX> {
     // Puts an item into a place that was granted in time.
     fn put_in_time(
         &self,
-        told: Result<Option<PermitOf<'_, R, MAX>>, AcquireError>,
+        reply: Result<Option<PermitOf<'_, R, MAX>>, AcquireError>,
         item: T,
     ) -> Result<(), PushError<T>>
         ensures back { IfErr result (λ refused. item_of refused ≡ item) }
     {
-        match told {
+        match reply {
             Ok(Some(place)) => self.put(place, item),
             Ok(None) => Err(PushError::TooLate(item)),
             Err(error) => Err(PushError::of(error, item)),
@@ -228,9 +228,9 @@ impl<R: Wait + Clock + Drop, T: Drop, const MAX: usize> Queue<R, T, MAX> {
     // Takes an item that was granted in time.
     fn take_in_time(
         &self,
-        told: Result<Option<PermitOf<'_, R, MAX>>, AcquireError>,
+        reply: Result<Option<PermitOf<'_, R, MAX>>, AcquireError>,
     ) -> Result<T, PopError> {
-        match told {
+        match reply {
             Ok(Some(filled)) => self.take(filled),
             Ok(None) => Err(PopError::TooLate),
             Err(error) => Err(PopError::from(error)),

@@ -33,7 +33,7 @@ use Rattle.saa_word.specs.declared.moves.Move.TheVariants.{Start, Go}
 use Rattle.saa_word.specs.declared.moves.Step.{Step}
 use Rattle.saa_word.specs.Tracks.{IsMachine, IsSized, RefinesAs}
 use Rattle.saa_word.specs.Machine.{IsOneStep, Moved, State, is_lock, opened, place_in, place_of, row_of}
-use Rattle.saa_word.specs.Moves.{found_by, gone, is_quiet, made_by, next_by, operation_at, started_by, step_of, stepped_at, worked_at}
+use Rattle.saa_word.specs.Moves.{found_by, gone, is_quiet, operation_by, next_by, operation_at, started_by, step_of, stepped_at, worked_at}
 
 -- what a move did, by its parts
 abbrev pub made_of : Rules → Step → List ℕ → List Place → ℕ → ℕ → Moved
@@ -109,23 +109,23 @@ stands-placed needs row places me place abstract here s =
 -- what a place in a call does next
 pub stepped-by : (state : State) (abstract : AbstractState) (me : ℕ) → (needs_of state.rules).top < 2 ^ count_bits → length state.places < 2 ^ 16 → me < length state.places → RefinesAs state abstract
     → StepRefines (needs_of state.rules) (length state.places) (row_of state) (place_of state) abstract me (place_of state me).stage
-stepped-by state abstract me wide few here s =
-    step (needs_of state.rules) (rules-lawful state.rules) wide (length state.places) (row_of state) (place_of state) abstract me few here s (place_of state me).stage refl
+stepped-by state abstract me wide bounded here s =
+    step (needs_of state.rules) (rules-lawful state.rules) wide (length state.places) (row_of state) (place_of state) abstract me bounded here s (place_of state me).stage refl
 
 -- its word is one of the row
 pub inside-by : (state : State) (me : ℕ) → IsMachine state → me < length state.places → word_at (operation_at state me) < length state.row
 inside-by state me is here =
-    let stepped = stepped-by state is.trace.state me is.tracks.sized.wide is.tracks.sized.few here is.tracks.refines in
+    let stepped = stepped-by state is.trace.state me is.tracks.sized.wide is.tracks.sized.bounded here is.tracks.refines in
     omega (arith, stepped.inside, is.tracks.sized.words)
 
 -- so a machine at which a place made its step stands together with the object behind the events of that step
 pub work-stands : (state : State) (abstract : AbstractState) (me : ℕ) → (needs_of state.rules).top < 2 ^ count_bits → length state.places < 2 ^ 16 → length state.row ≡ 1 + 2 * length state.places
     → (here : me < length state.places) → (s : RefinesAs state abstract) → (stepped : StepRefines (needs_of state.rules) (length state.places) (row_of state) (place_of state) abstract me (place_of state me).stage)
     → RefinesAs (worked_at state me).machine stepped.last
-work-stands state abstract me wide few words here s stepped =
+work-stands state abstract me wide bounded words here s stepped =
     stands-set (needs_of state.rules) state.row state.places (word_at (operation_at state me)) (written_by (operation_at state me) (found_by state (operation_at state me))) me
     (place_after (place_of state me) (next_of (needs_of state.rules) me (place_of state me) (place_of state me).stage (found_by state (operation_at state me)))) stepped.last
-    (omega (arith, stepped.inside, words)) here stepped.stands
+    (omega (arith, stepped.inside, words)) here stepped.invariant
 
 -- a machine at which one place begins a call, or is done with one at once
 pub start-stands : (state : State) (abstract : AbstractState) (me : ℕ) (call : WordCall) → (needs_of state.rules).top < 2 ^ count_bits → me < length state.places → RefinesAs state abstract
@@ -139,7 +139,7 @@ start-stands state abstract me call wide here s quiet taken =
 pub start-sized : (state : State) (me : ℕ) (place : Place) → IsSized state → IsSized (record state { places = slice_set state.places me place })
 start-sized state me place sized = record {
   wide = sized.wide;
-  few = subst (λ n. n < 2 ^ 16) (sym (length-set state.places me place)) sized.few;
+  bounded = subst (λ n. n < 2 ^ 16) (sym (length-set state.places me place)) sized.bounded;
   words = sized.words ∙ ap (λ n. 1 + 2 * n) (sym (length-set state.places me place));
 }
 
@@ -149,15 +149,15 @@ work-sized state me sized =
     let place : Place = place_after (place_of state me) (next_by (needs_of state.rules) me (place_of state me) (found_by state operation)) in
     record {
       wide = sized.wide;
-      few = subst (λ n. n < 2 ^ 16) (sym (length-set state.places me place)) sized.few;
+      bounded = subst (λ n. n < 2 ^ 16) (sym (length-set state.places me place)) sized.bounded;
       words = length-set state.row (word_at operation) (written_by operation (found_by state operation)) ∙ sized.words
           ∙ ap (λ n. 1 + 2 * n) (sym (length-set state.places me place));
     }
 
 pub opened-sized : (rules : Rules) (count places : ℕ) → (needs_of rules).top < 2 ^ count_bits → places < 2 ^ 16 → IsSized (opened rules count places)
-opened-sized rules count places wide few = record {
+opened-sized rules count places wide bounded = record {
   wide = wide;
-  few = subst (λ n. n < 2 ^ 16) (sym (length-replicate places idle_place)) few;
+  bounded = subst (λ n. n < 2 ^ 16) (sym (length-replicate places idle_place)) bounded;
   words =
       let row : length {A = ℕ} (replicate (2 * places) 0) ≡ 2 * places = length-replicate (2 * places) 0 in
       let all : length (replicate places idle_place) ≡ places = length-replicate places idle_place in
@@ -192,7 +192,7 @@ stepped-worked state me busy = rw busy refl
 
 -- what a place in a call does, by its parts
 pub worked-is : (state : State) (me at count : ℕ) (place : Place) (operation : Operation) (found : ℕ) (next : Next) (behind : Place) (step : Step) (row : List ℕ) (operations last_word : ℕ)
-    → place ≡ place_of state me → count ≡ length state.places → operation ≡ made_by (needs_of state.rules) count me place
+    → place ≡ place_of state me → count ≡ length state.places → operation ≡ operation_by (needs_of state.rules) count me place
     → found ≡ slice_index state.row (word_at operation) → next ≡ next_by (needs_of state.rules) me place found
     → behind ≡ place_after place next → step ≡ step_of next → at ≡ me
     → row ≡ slice_set state.row (word_at operation) (written_by operation found) → operations ≡ state.operations + 1 → last_word ≡ word_at operation
@@ -201,7 +201,7 @@ worked-is state me at count place operation found next behind step row operation
     let needs : Needs = needs_of state.rules in
     let own : Place = place_of state me in
     let op : Operation = operation_at state me in
-    let makes2 : operation ≡ op = makes ∙ ap (λ n. made_by needs n me place) counts ∙ ap (λ (p : Place). made_by needs (length state.places) me p) reads in
+    let makes2 : operation ≡ op = makes ∙ ap (λ n. operation_by needs n me place) counts ∙ ap (λ (p : Place). operation_by needs (length state.places) me p) reads in
     let finds2 : found ≡ found_by state op = finds ∙ ap (λ o. found_by state o) makes2 in
     let nexts2 : next ≡ next_by needs me own (found_by state op) = nexts ∙ ap (λ (p : Place). next_by needs me p found) reads ∙ ap (λ n. next_by needs me own n) finds2 in
     let goes2 : behind ≡ place_after own (next_by needs me own (found_by state op)) = goes ∙ ap (λ p. place_after p next) reads ∙ ap (λ n. place_after own n) nexts2 in

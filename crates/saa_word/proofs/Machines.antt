@@ -38,7 +38,7 @@ loaded-machine state row operations last_word same is =
     (record {
       trace = is.trace;
       tracks = record {
-        sized = record { wide = t.sized.wide; few = t.sized.few; words = t.sized.words };
+        sized = record { wide = t.sized.wide; bounded = t.sized.bounded; words = t.sized.words };
         run = t.run;
         refines = t.refines;
         registered = t.registered;
@@ -55,5 +55,5 @@ loaded-machine state row operations last_word same is =
 pub opened-parts : (rules : Rules) (row : List ℕ) (places : List Place) (operations last_word count many : ℕ) → (needs_of rules).top < 2 ^ count_bits
     → count ≤ (needs_of rules).top → many < 2 ^ 16 → row ≡ count ∷ replicate (2 * many) 0 → places ≡ replicate many idle_place → operations ≡ 0 → last_word ≡ 0
     → IsMachine (record { rules = rules; row = row; places = places; operations = operations; last_word = last_word })
-opened-parts rules row places operations last_word count many wide small few row_is places_is operations_is last_is =
-    record { trace = beginning count; tracks = made-tracks rules row places operations last_word count many wide small few row_is places_is operations_is last_is }
+opened-parts rules row places operations last_word count many wide small bounded row_is places_is operations_is last_is =
+    record { trace = beginning count; tracks = made-tracks rules row places operations last_word count many wide small bounded row_is places_is operations_is last_is }

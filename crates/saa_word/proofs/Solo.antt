@@ -68,7 +68,7 @@ goes-alone state trace me tracks here busy =
     let operation : Operation = operation_at state me in
     let found : ℕ = found_by state operation in
     let next : Next = next_of (needs_of state.rules) me (place_of state me) (place_of state me).stage found in
-    let inside = stepped-by state trace.state me tracks.sized.wide tracks.sized.few here tracks.refines in
+    let inside = stepped-by state trace.state me tracks.sized.wide tracks.sized.bounded here tracks.refines in
     rw busy (
       moment-same (row_of (worked_at state me).machine) (row_after (row_of state) operation) (place_of (worked_at state me).machine)
           (updated (place_of state) me (place_after (place_of state me) next))
@@ -82,7 +82,7 @@ pub ends-alone : (state : State) (trace : Trace) (me : ℕ) (call : WordCall) �
     → Ends (needs_of state.rules) (length state.places) me call (moment_of state) (8 * length trace.state.line + 24)
 ends-alone state trace me call tracks rests here taken absent =
     ends (needs_of state.rules) (rules-lawful state.rules) tracks.sized.wide (length state.places) (row_of state) (place_of state) trace.state me call
-    (omega (arith, tracks.sized.few)) here tracks.refines (all-quiet state trace tracks rests) taken absent
+    (omega (arith, tracks.sized.bounded)) here tracks.refines (all-quiet state trace tracks rests) taken absent
 
 pub agrees-alone : (state : State) (trace : Trace) (me : ℕ) (is_sync : Bool) (call : WordCall) (s : Object) (steps : ℕ) (answer : Answer) (last : Configuration)
     → Tracks state trace → IsQuiescent trace → me < length state.places → is_taken (is_lock state) call ≡ true
@@ -93,10 +93,10 @@ agrees-alone state trace me is_sync call s steps answer last tracks rests here t
     alone state.rules (length state.places) me is_sync call (moment_of state) s
     (record {
       small = tracks.sized.wide;
-      room = omega (arith, tracks.sized.few);
+      room = omega (arith, tracks.sized.bounded);
       here = here;
       state = trace.state;
-      stands = tracks.refines;
+      invariant = tracks.refines;
       quiet = all-quiet state trace tracks rests;
       mirrors = mirrors;
     })

@@ -18,7 +18,7 @@ use Rattle.saa_core_spec.specs.Object.{Object, one_if}
 use Rattle.saa_word_steps.specs.declared.place.Registration.TheVariants.{Idle as IsIdle, AnsweredAtOnce, Queued}
 use Rattle.saa_word_steps.specs.declared.place.PollMode.TheVariants.{Awaits}
 use Rattle.saa_word_proofs.specs.Registering.{is_slot}
-use Rattle.saa_word_proofs.proofs.SoloLemmas.Waiting.{left-waiting}
+use Rattle.saa_word_proofs.proofs.SoloLemmas.Ends.{left-waiting}
 use Rattle.saa_word_steps.specs.Steps.{polled_as, started}
 use Rattle.saa_word_steps.specs.Readings.{is_taken}
 use Rattle.saa_word_proofs.specs.CallStages.{IsUnder}
@@ -35,8 +35,7 @@ use Rattle.saa_word_proofs.specs.Promises.{WordsShow}
 use Rattle.saa_word_proofs.specs.Represents.{Represents, called as called_by}
 use Rattle.saa_word_proofs.proofs.RefinementLemmas.Lists.{all-same}
 use Rattle.saa_word_proofs.proofs.RefinementLemmas.Promises.{says-so}
-use Rattle.saa_word_proofs.proofs.SoloLemmas.Books.{mirrored}
-use Rattle.saa_word_proofs.proofs.SoloLemmas.SameWords.{represents-same}
+use Rattle.saa_word_proofs.proofs.SoloLemmas.Books.{mirrored, represents-same}
 use Rattle.saa_word.specs.Machine.{IsMove, State, is_lock, place_in, place_of, row_of}
 use Rattle.saa_word.specs.Moves.{gone, is_quiet, step_of}
 use Rattle.saa_word.specs.Runs.{ran}
@@ -192,10 +191,10 @@ replicate-both (suc many) more one =
     ∙ ap (λ (l : List _). one ∷ l) (replicate-both many more one)
 
 -- those first of so many, and how many moves are answered
-take-replicate : {A : Type 0} (few many : ℕ) (one : A) (rest : List A) → few ≤ many → take few (replicate many one ++ rest) ≡ replicate few one
+take-replicate : {A : Type 0} (bounded many : ℕ) (one : A) (rest : List A) → bounded ≤ many → take bounded (replicate many one ++ rest) ≡ replicate bounded one
 take-replicate zero many one rest within = refl
-take-replicate (suc few) zero one rest within = absurd (omega (arith, within))
-take-replicate (suc few) (suc many) one rest within = ap (λ (l : List _). one ∷ l) (take-replicate few many one rest (omega (arith, within)))
+take-replicate (suc bounded) zero one rest within = absurd (omega (arith, within))
+take-replicate (suc bounded) (suc many) one rest within = ap (λ (l : List _). one ∷ l) (take-replicate bounded many one rest (omega (arith, within)))
 
 length-ran : (state : State) (moves : List Move) → length (ran state moves).steps ≡ length moves
 length-ran state [] = refl
@@ -266,7 +265,7 @@ ended-solo state trace me call needed idle answer last tracks quiescent here tak
           let now : Tracks after simulates.last = then in
           let shows : WordsShow needs (length state.places) (row_of after) a.state =
           subst (λ (m : Configuration). WordsShow needs (length state.places) m.row a.state) (sym moment_is)
-          (says-so needs (length state.places) last.row last.standing a.state a.stands) in
+          (says-so needs (length state.places) last.row last.standing a.state a.invariant) in
           let also : WordsShow needs (length state.places) (row_of after) simulates.last.state =
           subst (λ (r : Rules). WordsShow (needs_of r) (length state.places) (row_of after) simulates.last.state) rules_are
           (subst (λ n. WordsShow (needs_of after.rules) n (row_of after) simulates.last.state) places_are
@@ -296,8 +295,8 @@ begun-solo state trace me call needed goes answer last tracks quiescent here tak
     ap (λ (n : ℕ). solo_moves me call n) (let all : needed ≡ goes + more = omega (arith, within) in all)
     ∙ ap (λ (l : List Move). Start me call ∷ l) (replicate-both goes more (Go me)) in
     let both = ran-both state (solo_moves me call goes) (replicate more (Go me)) in
-    let few : length {A = Move} (replicate goes (Go me)) ≡ goes = length-replicate goes (Go me) in
-    let many : length (ran state (solo_moves me call goes)).steps ≡ goes + 1 = omega (arith, length-ran state (solo_moves me call goes), few) in
+    let bounded : length {A = Move} (replicate goes (Go me)) ≡ goes = length-replicate goes (Go me) in
+    let many : length (ran state (solo_moves me call goes)).steps ≡ goes + 1 = omega (arith, length-ran state (solo_moves me call goes), bounded) in
     sym (take_at (ran state (solo_moves me call goes)).steps (ran (ran state (solo_moves me call goes)).machine (replicate more (Go me))).steps (goes + 1) many)
     ∙ ap (take (goes + 1)) (sym (ap (λ (l : List Move). (ran state l).steps) split ∙ both.0) ∙ front.0)
     ∙ take-replicate (goes + 1) needed Going (Done answer ∷ []) (omega (arith, within))
@@ -309,7 +308,7 @@ solo state trace me goes call tracks quiescent here taken absent =
     let e = ends-alone state trace me call tracks quiescent here taken absent in
     record {
       needed = e.steps;
-      few = e.few;
+      bounded = e.bounded;
       before = begun-solo state trace me call e.steps goes e.answer e.last tracks quiescent here taken e.called;
       ends = λ idle is.
           subst (λ n. IsAnsweredAlone state trace me call e.steps idle (ran state (solo_moves me call n)).steps (ran state (solo_moves me call n)).machine) (sym is)

@@ -16,13 +16,11 @@ use Rattle.saa_word_steps.specs.declared.place.Stage.{Stage}
 use Rattle.saa_word_steps.specs.declared.place.Stage.TheVariants.{Quiet}
 use Rattle.saa_word_steps.specs.declared.place.Registration.{Registration}
 use Rattle.saa_word_steps.specs.Needs.{Needs, needs_of, permit_needs}
-use Rattle.saa_word_steps.specs.AbstractState.{AbstractState, IsRun, OwesNothing, after_event, is_in, opening}
+use Rattle.saa_word_steps.specs.AbstractState.{AbstractState, IsRun, HasShownAll, after_event, is_in, opening}
 use Rattle.saa_word_proofs.proofs.ConservationLemmas.{opening-granted, run-balanced, run-granted, run-pending, run-permits}
 use Rattle.saa_word_proofs.specs.Registering.{AreRegistered, registration_after_start, is_slot, registration_after, starting_answer}
 use Rattle.saa_word_proofs.specs.CallStages.{IsBegun, IsLeft, IsStartedAs, IsUnder, IsUnderNext}
-use Rattle.saa_word_proofs.proofs.SoloLemmas.Paths.{left-next}
-use Rattle.saa_word_proofs.proofs.SoloLemmas.Registered.{started-as}
-use Rattle.saa_word_proofs.proofs.SoloLemmas.Slots.{begun-registered-line, run-registered}
+use Rattle.saa_word_proofs.proofs.SoloLemmas.Registered.{left-next, started-as, begun-registered-line, run-registered}
 use Rattle.saa_core_spec.specs.Object.{one_if}
 use Rattle.saa_word_steps.specs.declared.event.Event.{Event}
 use Rattle.saa_word_steps.specs.Steps.{next_of, started, word_at, written_by}
@@ -39,7 +37,7 @@ use Rattle.saa_word_proofs.proofs.RefinementLemmas.Calls.{under-next}
 use Rattle.saa_word_proofs.proofs.RefinementLemmas.Starting.{call-begun}
 use Rattle.saa_word_proofs.proofs.RefinementLemmas.Promises.{says-so}
 use Rattle.saa_word_proofs.proofs.RefinementLemmas.Silence.{silent-step}
-use Rattle.saa_word_proofs.specs.StepBound.{AreWithin, IsCounted, step_bound, counted, made_by}
+use Rattle.saa_word_proofs.specs.StepBound.{AreWithin, IsCounted, step_bound, counted, steps_made_by}
 use Rattle.saa_word_proofs.proofs.StepBoundLemmas.Bounds.{step_bound-bounded}
 use Rattle.saa_word_proofs.proofs.StepBoundLemmas.Counted.{counted-within}
 use Rattle.saa_word_proofs.proofs.SoloLemmas.Alone.{rules-lawful}
@@ -70,11 +68,11 @@ conserves state trace run bound rules =
     let needs : Needs = permit_needs bound in
     let same : IsRun needs (opening trace.withheld) trace.history trace.state =
     subst (λ (r : Rules). IsRun (needs_of r) (opening trace.withheld) trace.history trace.state) rules run in
-    let told = run-granted needs refl trace.withheld trace.history trace.state same in
+    let may = run-granted needs refl trace.withheld trace.history trace.state same in
     record {
       balanced = run-balanced bound trace.withheld trace.history trace.state same;
       pending = λ place. (run-pending needs trace.withheld trace.history trace.state same).pending place;
-      told = λ place value. (told.due place value, told.shown place value);
+      answers = λ place value. (may.granted place value, may.answered place value);
       events = run-permits needs refl (opening trace.withheld) trace.history trace.state (opening-granted trace.withheld) same;
     }
 
@@ -168,7 +166,7 @@ begun-registered underway me call events was HasToWait = refl
 begun-registered underway me call events was (IsDone behind answer) = refl
 
 -- what a step counts
-mine-made : (made me : ℕ) (next : Next) → made_by made next ≡ mine_after made (Go me) (step_of next)
+mine-made : (made me : ℕ) (next : Next) → steps_made_by made next ≡ mine_after made (Go me) (step_of next)
 mine-made made me (GoesOn place) = refl
 mine-made made me HasToWait = refl
 mine-made made me (IsDone place answer) = refl
@@ -194,15 +192,15 @@ silent-next me (GoesOn place) events none = tt
 silent-next me HasToWait events none = none refl
 silent-next me (IsDone place answer) events none = tt
 
--- a place in no call owes nothing
-owes-nothing : (state : State) (trace : Trace) → Tracks state trace → (place : ℕ) → trace.calls place ≡ None → OwesNothing place trace.state
-owes-nothing state trace tracks place none other due mine =
+-- a place in no call has shown all that it granted
+has-shown-all : (state : State) (trace : Trace) → Tracks state trace → (place : ℕ) → trace.calls place ≡ None → HasShownAll place trace.state
+has-shown-all state trace tracks place none other granted mine =
     let s = tracks.refines in
     let quiet : (place_of state place).stage ≡ Quiet =
     subst (λ (underway : Option PendingCall). IsIn (needs_of state.rules) underway (place_of state place)) none (tracks.calls place) in
-    let nothing : s.owed place ≡ [] = subst (λ (stage : Stage). IsShowing (s.owed place) (s.answer_value place) stage) quiet (s.stages.showing place) in
-    let there : is_in other (s.owed (trace.state.granter other)) ≡ true = s.debts.paid_by other due in
-    let wrong : true ≡ false = sym there ∙ ap (λ (n : ℕ). is_in other (s.owed n)) mine ∙ ap (is_in other) nothing in
+    let nothing : s.unshown place ≡ [] = subst (λ (stage : Stage). IsShowing (s.unshown place) (s.answer_value place) stage) quiet (s.stages.showing place) in
+    let there : is_in other (s.unshown (trace.state.granter other)) ≡ true = s.grants.unshown_by other granted in
+    let wrong : true ≡ false = sym there ∙ ap (λ (n : ℕ). is_in other (s.unshown n)) mine ∙ ap (is_in other) nothing in
     absurd (cc)
 
 -- While no place is in a call all is at rest
@@ -221,12 +219,12 @@ went state trace me here tracks busy =
     let found : ℕ = found_by state operation in
     let next : Next = next_of needs me place place.stage found in
     let silent = silent-step needs (rules-lawful state.rules) tracks.sized.wide (length state.places) (row_of state) (place_of state) trace.state me
-    tracks.sized.few here tracks.refines in
+    tracks.sized.bounded here tracks.refines in
     let stepped = silent.0 in
     let events : List Event = stepped.events in
     let machine : State = (worked_at state me).machine in
     let refines : RefinesAs machine stepped.last =
-    work-stands state trace.state me tracks.sized.wide tracks.sized.few tracks.sized.words here tracks.refines stepped in
+    work-stands state trace.state me tracks.sized.wide tracks.sized.bounded tracks.sized.words here tracks.refines stepped in
     let left = step-left needs (trace.calls me) me place found (named events) (tracks.calls me) busy stepped.names in
     let holds : Bool = holds_after state (Go me) (worked_at state me) trace in
     let goes = in-next needs (trace.registered me) holds (trace.calls me) me place (named events) next (tracks.calls me) busy
@@ -237,13 +235,13 @@ went state trace me here tracks busy =
     set-updated state.row (word_at operation) (written_by operation found) 0 (omega (arith, stepped.inside, tracks.sized.words)) in
     let place_is : place_of machine ≡ updated (place_of state) me (place_after place next) =
     set-updated state.places me (place_after place next) idle_place here in
-    let count : IsCounted needs (length state.places) (row_of state) (place_of state) me trace.made place.stage =
-    counted-within needs (rules-lawful state.rules) tracks.sized.wide (length state.places) (row_of state) (place_of state) trace.state me trace.made tracks.refines
+    let count : IsCounted needs (length state.places) (row_of state) (place_of state) me trace.steps_since_change place.stage =
+    counted-within needs (rules-lawful state.rules) tracks.sized.wide (length state.places) (row_of state) (place_of state) trace.state me trace.steps_since_change tracks.refines
     (not-quiet place.stage busy) tracks.within in
-    let made : ℕ → ℕ = made_after trace.made (Go me) (step_of next) (row_of machine 0 == row_of state 0) in
-    let made_is : counted trace.made me next (row_after (row_of state) operation 0 == row_of state 0) ≡ made =
-    counted-made trace.made me next (row_after (row_of state) operation 0 == row_of state 0)
-    ∙ ap (λ (r : ℕ → ℕ). made_after trace.made (Go me) (step_of next) (r 0 == row_of state 0)) (sym row_is) in
+    let made : ℕ → ℕ = made_after trace.steps_since_change (Go me) (step_of next) (row_of machine 0 == row_of state 0) in
+    let made_is : counted trace.steps_since_change me next (row_after (row_of state) operation 0 == row_of state 0) ≡ made =
+    counted-made trace.steps_since_change me next (row_after (row_of state) operation 0 == row_of state 0)
+    ∙ ap (λ (r : ℕ → ℕ). made_after trace.steps_since_change (Go me) (step_of next) (r 0 == row_of state 0)) (sym row_is) in
     let within_here : AreWithin (length state.places) (row_of machine) (place_of machine) made =
     subst (λ (r : ℕ → ℕ). AreWithin (length state.places) r (place_of machine) made) (sym row_is)
     (subst (λ (f : ℕ → Place). AreWithin (length state.places) (row_after (row_of state) operation) f made) (sym place_is)
@@ -303,8 +301,8 @@ went state trace me here tracks busy =
       words = shown;
       leads = record { last = stepped.last; run = run; shown = shown };
       conserved = conserves state (trace_after state (Go me) (worked_at state me) trace events stepped.last) run;
-      few = λ one. omega (arith, within_here one);
-      shown = owes-nothing machine after then;
+      bounded = λ one. omega (arith, within_here one);
+      shown = has-shown-all machine after then;
       quiet = rests machine after then;
       tracks = then;
     })
@@ -333,16 +331,16 @@ begun state trace me call here taken tracks quiet =
     let starts : IsBegun needs call place.registration next = call-begun needs place call none taken in
     let refines : RefinesAs after trace.state = start-stands state trace.state me call tracks.sized.wide here tracks.refines quiet taken in
     let place_is : place_of after ≡ updated (place_of state) me behind = set-updated state.places me behind idle_place here in
-    let made : ℕ → ℕ = made_after trace.made (Start me call) (step_of next) (row_of state 0 == row_of state 0) in
+    let made : ℕ → ℕ = made_after trace.steps_since_change (Start me call) (step_of next) (row_of state 0 == row_of state 0) in
     let within_here : AreWithin (length state.places) (row_of state) (place_of after) made =
     subst (λ (f : ℕ → Place). AreWithin (length state.places) (row_of state) f made) (sym place_is)
     (λ other.
     elim (cases_Bool (other == me)) [
       | inl same ↦
           let is : other ≡ me = same_number other me same in
-          rw same (subst (λ n. mine_after (trace.made n) (Start me call) (step_of next) + step_bound (length state.places) (row_of state) behind.back behind.stage
+          rw same (subst (λ n. mine_after (trace.steps_since_change n) (Start me call) (step_of next) + step_bound (length state.places) (row_of state) behind.back behind.stage
           ≤ 16 * length state.places + 48) (sym is)
-          (start-mine needs (length state.places) (row_of state) (trace.made me) me place call next (tracks.within me) starts))
+          (start-mine needs (length state.places) (row_of state) (trace.steps_since_change me) me place call next (tracks.within me) starts))
       | inr apart ↦ rw (apart, number_same (row_of state 0)) (tracks.within other)
     ]) in
     let answered = started-as needs place call none in
@@ -396,8 +394,8 @@ begun state trace me call here taken tracks quiet =
       words = shown;
       leads = record { last = trace.state; run = run; shown = shown };
       conserved = conserves state (trace_after state (Start me call) (followed state me next) trace [] trace.state) run;
-      few = λ one. omega (arith, within_here one);
-      shown = owes-nothing after behind_it then;
+      bounded = λ one. omega (arith, within_here one);
+      shown = has-shown-all after behind_it then;
       quiet = rests after behind_it then;
       tracks = then;
     })
@@ -431,8 +429,8 @@ idled state trace move step calls registered made exact silent right waits track
       words = shown;
       leads = record { last = trace.state; run = run; shown = shown };
       conserved = conserves state (trace_after state move (record { step = step; machine = state }) trace [] trace.state) run;
-      few = λ one. subst (λ (m : ℕ → ℕ). m one ≤ 16 * length state.places + 48) (sym made_is) (omega (arith, tracks.within one));
-      shown = owes-nothing state (trace_after state move (record { step = step; machine = state }) trace [] trace.state) (subst (λ (t : Trace). Tracks state t) (sym trace_is) tracks);
+      bounded = λ one. subst (λ (m : ℕ → ℕ). m one ≤ 16 * length state.places + 48) (sym made_is) (omega (arith, tracks.within one));
+      shown = has-shown-all state (trace_after state move (record { step = step; machine = state }) trace [] trace.state) (subst (λ (t : Trace). Tracks state t) (sym trace_is) tracks);
       quiet = rests state (trace_after state move (record { step = step; machine = state }) trace [] trace.state) (subst (λ (t : Trace). Tracks state t) (sym trace_is) tracks);
       tracks = subst (λ (t : Trace). Tracks state t) (sym trace_is) tracks;
     }
@@ -443,10 +441,10 @@ idled state trace move step calls registered made exact silent right waits track
     run : IsRun (needs_of state.rules) (opening trace.withheld) (trace.history ++ []) trace.state
     run = subst (λ (h : List (ℕ × Event)). IsRun (needs_of state.rules) (opening trace.withheld) h trace.state) (sym (append-nil trace.history)) tracks.run
 
-    made_is : made_after trace.made move step (row_of state 0 == row_of state 0) ≡ trace.made
-    made_is = all-same (made_after trace.made move step (row_of state 0 == row_of state 0)) trace.made (λ place.
+    made_is : made_after trace.steps_since_change move step (row_of state 0 == row_of state 0) ≡ trace.steps_since_change
+    made_is = all-same (made_after trace.steps_since_change move step (row_of state 0 == row_of state 0)) trace.steps_since_change (λ place.
         elim (cases_Bool (place == mover move)) [
-          | inl same ↦ rw same (made (trace.made place))
+          | inl same ↦ rw same (made (trace.steps_since_change place))
           | inr apart ↦ rw (apart, number_same (row_of state 0)) refl
         ])
 
@@ -478,7 +476,7 @@ idled state trace move step calls registered made exact silent right waits track
       registered = registered_is i;
       holder = holder_is i;
       calls = calls_is i;
-      made = made_is i;
+      steps_since_change = made_is i;
     }
 
 -- Every move
@@ -520,8 +518,8 @@ simulates state (Go me) trace is tracks =
 -- the beginning tracks a machine that was just made
 pub opened-tracks : (rules : Rules) (count places : ℕ) → (needs_of rules).top < 2 ^ count_bits → count ≤ (needs_of rules).top → places < 2 ^ 16
     → Tracks (opened rules count places) (beginning count)
-opened-tracks rules count places wide small few =
-    let sized = opened-sized rules count places wide few in
+opened-tracks rules count places wide small bounded =
+    let sized = opened-sized rules count places wide bounded in
     let refines = opened-stands rules count places wide small in
     let clear : (main_of (row_of (opened rules count places))).is_flagged ≡ false =
     (let none : count / 2 ^ count_bits % 2 ≡ 0 = omega (arith, small, wide) in rw none refl) in
@@ -549,7 +547,7 @@ simulated-as state machine move step trace step_is machine_is is tracks =
 pub made-tracks : (rules : Rules) (row : List ℕ) (places : List Place) (operations last_word count many : ℕ) → (needs_of rules).top < 2 ^ count_bits
     → count ≤ (needs_of rules).top → many < 2 ^ 16 → row ≡ count ∷ replicate (2 * many) 0 → places ≡ replicate many idle_place → operations ≡ 0 → last_word ≡ 0
     → Tracks (record { rules = rules; row = row; places = places; operations = operations; last_word = last_word }) (beginning count)
-made-tracks rules row places operations last_word count many wide small few row_is places_is operations_is last_is =
+made-tracks rules row places operations last_word count many wide small bounded row_is places_is operations_is last_is =
     subst (λ (s : State). Tracks s (beginning count))
     (λ i. record { rules = rules; row = sym row_is i; places = sym places_is i; operations = sym operations_is i; last_word = sym last_is i })
-    (opened-tracks rules count many wide small few)
+    (opened-tracks rules count many wide small bounded)

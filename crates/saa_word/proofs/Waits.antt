@@ -186,14 +186,14 @@ waits-free needs abstract me seen Clear stalled = refl
 waits-free needs abstract me seen stage stalled = absurd stalled
 
 -- a place that waits has no answer to show
-pays-nothing : (needs : Needs) (abstract : AbstractState) (me : ℕ) (seen : Word) (owed : List (ℕ × ℕ)) (answer_value : ℕ) (stage : Stage) → IsBlockedAt needs abstract me seen stage
-    → IsShowing owed answer_value stage → owed ≡ []
-pays-nothing needs abstract me seen owed answer_value (Take taking) stalled showing = showing
-pays-nothing needs abstract me seen owed answer_value FlagLoad stalled showing = showing
-pays-nothing needs abstract me seen owed answer_value (FlagExchange old) stalled showing = showing
-pays-nothing needs abstract me seen owed answer_value PoisonLoad stalled showing = showing
-pays-nothing needs abstract me seen owed answer_value (PoisonExchange old) stalled showing = showing
-pays-nothing needs abstract me seen owed answer_value stage stalled showing = absurd stalled
+none-unshown : (needs : Needs) (abstract : AbstractState) (me : ℕ) (seen : Word) (unshown : List (ℕ × ℕ)) (answer_value : ℕ) (stage : Stage) → IsBlockedAt needs abstract me seen stage
+    → IsShowing unshown answer_value stage → unshown ≡ []
+none-unshown needs abstract me seen unshown answer_value (Take taking) stalled showing = showing
+none-unshown needs abstract me seen unshown answer_value FlagLoad stalled showing = showing
+none-unshown needs abstract me seen unshown answer_value (FlagExchange old) stalled showing = showing
+none-unshown needs abstract me seen unshown answer_value PoisonLoad stalled showing = showing
+none-unshown needs abstract me seen unshown answer_value (PoisonExchange old) stalled showing = showing
+none-unshown needs abstract me seen unshown answer_value stage stalled showing = absurd stalled
 
 pub waiting : (state : State) (trace : Trace) (me : ℕ) → me < length state.places → Tracks state trace → is_quiet (place_of state me).stage ≡ false
     → next_of (needs_of state.rules) me (place_of state me) (place_of state me).stage (found_by state (operation_at state me)) ≡ HasToWait
@@ -214,11 +214,11 @@ waiting state trace me here tracks busy waits =
       blocked = held-in (needs_of state.rules) trace (length state.places) me (main_of (row_of state)) (trace.calls me) (place_of state me)
           (record { held = λ set. (some set, free); registered = tracks.registered me }) (tracks.calls me) (tracks.fresh me) busy (s.stages.alone me) only.0;
       free = free;
-      clear = λ place due mine.
-          let none : s.owed me ≡ [] =
-          pays-nothing (needs_of state.rules) trace.state me (main_of (row_of state)) (s.owed me) (s.answer_value me) (place_of state me).stage only.0 (s.stages.showing me) in
-          let there : is_in place (s.owed me) ≡ true =
-          subst (λ (n : ℕ). is_in place (s.owed n) ≡ true) mine (s.debts.paid_by place due) in
+      clear = λ place granted mine.
+          let none : s.unshown me ≡ [] =
+          none-unshown (needs_of state.rules) trace.state me (main_of (row_of state)) (s.unshown me) (s.answer_value me) (place_of state me).stage only.0 (s.stages.showing me) in
+          let there : is_in place (s.unshown me) ≡ true =
+          subst (λ (n : ℕ). is_in place (s.unshown n) ≡ true) mine (s.grants.unshown_by place granted) in
           let wrong : false ≡ true = ap (is_in place) (sym none) ∙ there in absurd (cc);
       row = ap (set state.row (word_at operation)) written ∙ set-get_or state.row (word_at operation) 0;
       places = ap (λ (n : Next). set state.places me (place_after (place_of state me) n)) waits ∙ set-get_or state.places me idle_place;

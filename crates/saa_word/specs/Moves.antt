@@ -60,8 +60,8 @@ performed state operation = record state {
 -- each puts what it needs in the place of these lines.
 
 -- the operation that a place makes next, out of so many places
-abbrev pub made_by : Needs → ℕ → ℕ → Place → Operation
-made_by needs places me place = operation_of needs places me place.stage
+abbrev pub operation_by : Needs → ℕ → ℕ → Place → Operation
+operation_by needs places me place = operation_of needs places me place.stage
 
 -- how a place goes on with the number that it found
 abbrev pub next_by : Needs → ℕ → Place → ℕ → Next
@@ -73,7 +73,7 @@ started_by needs place call = started needs place call
 
 -- the operation that a place makes next
 abbrev pub operation_at : State → ℕ → Operation
-operation_at state me = made_by (needs_of state.rules) (length state.places) me (place_of state me)
+operation_at state me = operation_by (needs_of state.rules) (length state.places) me (place_of state me)
 
 -- a place in the middle of a call makes one operation, and goes on with the number that it found
 abbrev pub worked_at : State → ℕ → Moved

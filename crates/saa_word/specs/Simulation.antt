@@ -9,13 +9,13 @@ use Rattle.saa_word_steps.specs.declared.place.Ask.{Ask}
 use Rattle.saa_word_steps.specs.declared.place.Registration.{Registration}
 use Rattle.saa_word_steps.specs.declared.rules.Rules.TheVariants.{Permits}
 use Rattle.saa_word_steps.specs.Needs.{Needs, needs_of, permit_needs}
-use Rattle.saa_word_steps.specs.AbstractState.{AbstractState, IsRun, OwesNothing, is_in}
+use Rattle.saa_word_steps.specs.AbstractState.{AbstractState, IsRun, HasShownAll, is_in}
 use Rattle.saa_core_words.specs.declared.word.Word.{Word}
 use Rattle.saa_word_proofs.specs.Rows.{IsOwnedAndFlagged, main_of, updated}
 use Rattle.saa_word_proofs.specs.Calls.{IsAnswered, asked_by}
 use Rattle.saa_word_proofs.specs.History.{LeadsTo, named, of_place}
 use Rattle.saa_word_proofs.specs.Promises.{WordsAreQuiescent, WordsShow}
-use Rattle.saa_word_proofs.specs.Conservation.{AreOfPermits, ConservesPermits, IsTold, is_grant, tally_of}
+use Rattle.saa_word_proofs.specs.Conservation.{AreOfPermits, ConservesPermits, MayAnswer, is_grant, tally_of}
 use Rattle.saa_word_proofs.specs.Registering.{registration_after_start, is_slot, registration_after, starting_answer}
 use Rattle.saa_word.specs.declared.moves.Move.{Move}
 use Rattle.saa_word.specs.declared.moves.Move.TheVariants.{Start, Go}
@@ -82,7 +82,7 @@ trace_after state move moved trace events last = record {
   holder = holder_after trace.holder (mover move) (main_of (row_of state)) (main_of (row_of moved.machine));
   calls = updated trace.calls (mover move)
       (call_after (trace.registered (mover move)) (holds_after state move moved trace) (trace.calls (mover move)) move (named events) moved.step);
-  made = made_after trace.made move moved.step (row_of moved.machine 0 == row_of state 0);
+  steps_since_change = made_after trace.steps_since_change move moved.step (row_of moved.machine 0 == row_of state 0);
 }
 
 -- a Start is no event, and neither is a Go that waits or finds no call
@@ -119,9 +119,9 @@ IsHeldByAnother trace me = (trace.holder ≢ 0) × (trace.holder ≢ me + 1)
 -- and a shut reads the main word of a semaphore that isn't shut, and another place holds the flag.
 -- A place that has held the flag in its call never waits for the flag again
 abbrev pub IsBlocked : Trace → ℕ → ℕ → Word → (read : ℕ) → (held : Bool) → WordCall → Type 0
-IsBlocked trace places me seen read held Poll = (read ≡ places + me + 1) × ((is_in me trace.state.line || is_some (trace.state.due me)) ≡ true)
+IsBlocked trace places me seen read held Poll = (read ≡ places + me + 1) × ((is_in me trace.state.line || is_some (trace.state.granted me)) ≡ true)
 IsBlocked trace places me seen read held Cancel =
-    ((read ≡ places + me + 1) × (is_some (trace.state.due me) ≡ true))
+    ((read ≡ places + me + 1) × (is_some (trace.state.granted me) ≡ true))
     ⊎ ((read ≡ 0) × (seen.is_flagged ≡ true) × IsHeldByAnother trace me × (held ≡ false) × (is_slot (trace.registered me) ≡ true))
 IsBlocked trace places me seen read held PoisonLock = (read ≡ 0) × IsOwnedAndFlagged seen × IsHeldByAnother trace me × (held ≡ false)
 IsBlocked trace places me seen read held Shut =
@@ -134,7 +134,7 @@ pub record IsWaiting (state after : State) (trace : Trace) (me : ℕ) : Type 0 w
   pub blocked : (underway : PendingCall) × (trace.calls me ≡ Some underway) × (underway.events ≡ [])
       × IsBlocked trace (length state.places) me (main_of (row_of state)) after.last_word underway.held underway.call
   pub free : trace.holder ≢ me + 1
-  pub clear : OwesNothing me trace.state
+  pub clear : HasShownAll me trace.state
   pub row : after.row ≡ state.row
   pub places : after.places ≡ state.places
 
@@ -148,9 +148,9 @@ WaitsRightly state after trace _ _ = Unit {0}
 pub record IsConserved (needs : Needs) (trace : Trace) : Type 0 where
   pub balanced : ConservesPermits needs trace.withheld trace.state (tally_of needs trace.withheld trace.history)
   pub pending : (place : ℕ) → times place (tally_of needs trace.withheld trace.history).pending
-      ≡ one_if (is_grant (trace.state.due place)) + one_if (is_grant (trace.state.shown place))
-  pub told : (place value : ℕ) → (trace.state.due place ≡ Some value → IsTold trace.state.poisoned value)
-      × (trace.state.shown place ≡ Some value → IsTold trace.state.poisoned value)
+      ≡ one_if (is_grant (trace.state.granted place)) + one_if (is_grant (trace.state.answered place))
+  pub answers : (place value : ℕ) → (trace.state.granted place ≡ Some value → MayAnswer trace.state.poisoned value)
+      × (trace.state.answered place ≡ Some value → MayAnswer trace.state.poisoned value)
   pub events : AreOfPermits trace.history
 
 -- the permits of a semaphore are
@@ -174,8 +174,8 @@ pub record Simulates (state : State) (move : Move) (moved : Moved) (trace : Trac
   pub words : WordsShow (needs_of state.rules) (length state.places) (row_of moved.machine) last
   pub leads : LeadsTo (needs_of state.rules) (length state.places) trace.withheld (trace.history ++ of_place (mover move) events) (row_of moved.machine)
   pub conserved : Conserves state (trace_after state move moved trace events last)
-  pub few : (place : ℕ) → (trace_after state move moved trace events last).made place ≤ 16 * length state.places + 48
-  pub shown : (place : ℕ) → (trace_after state move moved trace events last).calls place ≡ None → OwesNothing place last
+  pub bounded : (place : ℕ) → (trace_after state move moved trace events last).steps_since_change place ≤ 16 * length state.places + 48
+  pub shown : (place : ℕ) → (trace_after state move moved trace events last).calls place ≡ None → HasShownAll place last
   pub quiet : IsQuiescent (trace_after state move moved trace events last) → WordsAreQuiescent (needs_of state.rules) (row_of moved.machine) last
   pub tracks : Tracks moved.machine (trace_after state move moved trace events last)
 

@@ -36,6 +36,6 @@ pub record IsAnsweredAlone (state : State) (trace : Trace) (me : ℕ) (call : Wo
 -- A solo run needs 8 steps for each waiter and 24 more at most. Each move of one that has fewer than it needs goes on
 pub record IsSolo (state : State) (trace : Trace) (me : ℕ) (call : WordCall) (goes : ℕ) (steps : List Step) (after : State) : Type 0 where
   pub needed : ℕ
-  pub few : needed ≤ 8 * length trace.state.line + 24
+  pub bounded : needed ≤ 8 * length trace.state.line + 24
   pub before : goes < needed → steps ≡ replicate (goes + 1) Going
   pub ends : (idle : ℕ) → goes ≡ needed + idle → IsAnsweredAlone state trace me call needed idle steps after

@@ -24,7 +24,7 @@ pub record Trace : Type 0 where
   pub registered : ℕ → Registration
   pub holder : ℕ
   pub calls : ℕ → Option PendingCall
-  pub made : ℕ → ℕ
+  pub steps_since_change : ℕ → ℕ
 
 -- no place is in a call
 abbrev pub IsQuiescent : Trace → Type 0
@@ -39,5 +39,5 @@ beginning count = record {
   registered = λ place. Idle;
   holder = 0;
   calls = λ place. None;
-  made = λ place. 0;
+  steps_since_change = λ place. 0;
 }

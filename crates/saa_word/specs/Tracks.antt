@@ -22,7 +22,7 @@ RefinesAs state abstract = Invariant (needs_of state.rules) (length state.places
 -- a machine is of few places, each with its words
 pub record IsSized (state : State) : Type 0 where
   pub wide : (needs_of state.rules).top < 2 ^ count_bits
-  pub few : length state.places < 2 ^ 16
+  pub bounded : length state.places < 2 ^ 16
   pub words : length state.row ≡ 1 + 2 * length state.places
 
 -- a place is in this call
@@ -57,7 +57,7 @@ pub record Tracks (state : State) (trace : Trace) : Type 0 where
   pub holder : refines.holder ≡ trace.holder
   pub calls : (place : ℕ) → IsIn (needs_of state.rules) (trace.calls place) (place_of state place)
   pub fresh : (place : ℕ) → IsFresh (trace.calls place) (place_of state place).stage
-  pub within : AreWithin (length state.places) (row_of state) (place_of state) trace.made
+  pub within : AreWithin (length state.places) (row_of state) (place_of state) trace.steps_since_change
 
 -- What a machine always is: some trace tracks it
 pub record IsMachine (state : State) : Type 0 where

@@ -60,8 +60,8 @@ module _ {Ask Word Place : Type 0} (calls : Word → WordCalls Ask Place) (table
       record { came = tt; rested = rested; awaited = λ late. absurd (false≢true late) }
 
   -- so does one that a task polled and that stays pending
-  pub pending : (at word : Word) → at ≡ word → (ask : Ask) (old new : Place) (told : Poll (Result ℕ Error)) → Awaits calls table home rests word ask old
-      → OnPending told ((calls at).polls old (Err NotReady) new) → home new ≡ home old → OnPending told (rests new → rests old) → OnPending told (Awaits calls table home rests word ask new)
+  pub pending : (at word : Word) → at ≡ word → (ask : Ask) (old new : Place) (reply : Poll (Result ℕ Error)) → Awaits calls table home rests word ask old
+      → OnPending reply ((calls at).polls old (Err NotReady) new) → home new ≡ home old → OnPending reply (rests new → rests old) → OnPending reply (Awaits calls table home rests word ask new)
   pending at word same ask old new (Ready answer) awaits poll stays waits = tt
   pending at word same ask old new Pending awaits poll stays waits = still at word same ask old new awaits poll stays waits
 

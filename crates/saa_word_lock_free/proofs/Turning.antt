@@ -29,8 +29,8 @@ either-keeps : (old new : Place) (answer : Answer) → IsMade Poll old answer ne
 either-keeps old new answer (inl made) = made.0.1
 either-keeps old new answer (inr made) = made.0.1
 
-poll-keeps : (lock : Lock) (old new : Place) (told : Result ℕ Error) → IsPolled lock old told new → home_of new ≡ home_of old
-poll-keeps lock old new told polled = either-keeps old new polled.0 polled.2
+poll-keeps : (lock : Lock) (old new : Place) (reply : Result ℕ Error) → IsPolled lock old reply new → home_of new ≡ home_of old
+poll-keeps lock old new reply polled = either-keeps old new polled.0 polled.2
 
 -- so do polls in vain
 polls-keep : (lock : Lock) (count : ℕ) (old new : Place) → ArePolledInVain (calls_of lock) count old new → home_of new ≡ home_of old
@@ -47,8 +47,8 @@ wait-is-at : (lock : Lock) (mode : Mode) (answer : Result ℕ Error) (receipt : 
     → IsReceiptAt (table_of lock) receipt
 wait-is-at lock mode answer receipt waited =
     waited.received.0
-    ∙ end-keeps lock answer waited.told waited.last waited.ended
-    ∙ poll-keeps lock waited.between waited.told answer waited.polled
+    ∙ end-keeps lock answer waited.after waited.last waited.ended
+    ∙ poll-keeps lock waited.between waited.after answer waited.polled
     ∙ waited.registered.2.0.1
     ∙ waited.rested.0
 
@@ -77,11 +77,11 @@ same-mode one other same = absurd (cc)
 
 -- the answer of a call that waited, and of a future, is a turn where it is a grant
 pub wait-is-turn : (lock : Lock) (mode : Mode) (value : ℕ) (receipt : Receipt) → value ≡ granted_value → IsAcquired lock mode (Ok value) receipt → ∥ IsTurn lock mode receipt ∥₁
-wait-is-turn lock mode value receipt granted acquired = ∣ inl (subst (λ told. IsAcquired lock mode (Ok told) receipt) granted acquired) ∣₁
+wait-is-turn lock mode value receipt granted acquired = ∣ inl (subst (λ reply. IsAcquired lock mode (Ok reply) receipt) granted acquired) ∣₁
 
 pub later-is-turn : (lock : Lock) (asked mode : Mode) (value : ℕ) (receipt : Receipt) → mode_request asked ≡ mode_request mode → value ≡ granted_value
     → IsAnsweredLater (calls_of lock) asked value receipt → ∥ IsTurn lock mode receipt ∥₁
 later-is-turn lock asked mode value receipt same granted answered =
-    let Q : Mode → Type 0 = λ told. IsAnsweredLater (calls_of lock) told granted_value receipt in
-    let P : ℕ → Type 0 = λ told. IsAnsweredLater (calls_of lock) asked told receipt in
+    let Q : Mode → Type 0 = λ reply. IsAnsweredLater (calls_of lock) reply granted_value receipt in
+    let P : ℕ → Type 0 = λ reply. IsAnsweredLater (calls_of lock) asked reply receipt in
     ∣ inr (inl (subst Q (same-mode asked mode same) (subst P granted answered))) ∣₁

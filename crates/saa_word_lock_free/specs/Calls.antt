@@ -25,7 +25,7 @@ number_at_once (Err WouldBlock) = None
 
 -- a visitor that came for it asked, and its try told so
 abbrev pub IsAsked : (Result (Unit {0}) TryLockError → Visitor → Type 0) → Option ℕ → Visitor → Type 0
-IsAsked tries number visitor = (told : Result (Unit {0}) TryLockError) × tries told visitor × (number ≡ number_at_once told)
+IsAsked tries number visitor = (after : Result (Unit {0}) TryLockError) × tries after visitor × (number ≡ number_at_once after)
 
 module _ {Ask Place : Type 0} where
   -- A wait at a place that rested in the pool: a registration, a poll, and a cancel where that has no answer. The receipt says what the place had
@@ -33,18 +33,18 @@ module _ {Ask Place : Type 0} where
   pub record AcquiresAndPolls (calls : WordCalls Ask Place) (ask : Ask) (answer : Result ℕ Error) (receipt : Receipt) : Type 0 where
     pub first : Place
     pub between : Place
-    pub told : Place
+    pub after : Place
     pub last : Place
     pub rested : calls.rests first
     pub registered : calls.registers ask first true between
-    pub polled : calls.polls between answer told
-    pub ended : CancelsUnanswered calls.cancels answer told last
+    pub polled : calls.polls between answer after
+    pub ended : CancelsUnanswered calls.cancels answer after last
     pub received : calls.receives last receipt
 
   -- how a wait ends at a place that is registered: a poll, and a cancel where that has no answer
   abbrev pub HasEndedAt : WordCalls Ask Place → Place → Result ℕ Error → Receipt → Type 0
   HasEndedAt calls between answer receipt =
-      (told : Place) × (last : Place) × calls.polls between answer told × CancelsUnanswered calls.cancels answer told last × calls.receives last receipt
+      (after : Place) × (last : Place) × calls.polls between answer after × CancelsUnanswered calls.cancels answer after last × calls.receives last receipt
 
   -- A call was answered so: its visitor at once, or a place that waited. The receipt says what the one or the other has seen
   abbrev pub IsAcquired : WordCalls Ask Place → Ask → Result ℕ Error → Receipt → Type 0

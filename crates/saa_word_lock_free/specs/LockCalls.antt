@@ -16,10 +16,10 @@ use Rattle.saa_word_lock_free.specs.OfLock.{IsTried, calls_of}
 
 -- a visitor that came for it tried in a mode; and this is what it has seen
 abbrev pub IsTriedIn : Lock → Mode → Result (Unit {0}) TryLockError → Type 0
-IsTriedIn lock mode told = (visitor : Visitor) × IsTried lock mode told visitor
+IsTriedIn lock mode reply = (visitor : Visitor) × IsTried lock mode reply visitor
 
 abbrev pub IsTriedWith : Lock → Mode → Result (Unit {0}) TryLockError → Receipt → Type 0
-IsTriedWith lock mode told receipt = (visitor : Visitor) × IsTried lock mode told visitor × IsReceivedBy (table_of lock) visitor receipt
+IsTriedWith lock mode reply receipt = (visitor : Visitor) × IsTried lock mode reply visitor × IsReceivedBy (table_of lock) visitor receipt
 
 -- a visitor made a call, which is done or not, or reads yes or no; and this is what it has seen
 abbrev pub IsDone : Lock → WordCall → Bool → Type 0
@@ -37,8 +37,8 @@ abbrev pub IsAcquired : Lock → Mode → Result ℕ Error → Receipt → Type 
 IsAcquired lock mode answer receipt = IsAcquiredBy (calls_of lock) mode answer receipt
 
 -- it was told whether it is granted
-abbrev pub IsToldIn : Lock → Mode → Bool → Type 0
-IsToldIn lock mode is_granted = (value : ℕ) × (is_granted ≡ (value == granted_value)) × IsAnswered lock mode (Ok value)
+abbrev pub SaysGranted : Lock → Mode → Bool → Type 0
+SaysGranted lock mode is_granted = (value : ℕ) × (is_granted ≡ (value == granted_value)) × IsAnswered lock mode (Ok value)
 
 -- what a timed call tells: whether it is granted, or that its time is up
 abbrev pub in_time : Result ℕ Error → Option Bool

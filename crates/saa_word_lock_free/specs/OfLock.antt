@@ -39,14 +39,14 @@ number_of (Err error) = Err error
 
 -- a visitor that came for it tried
 abbrev pub IsTriedBy : Lock → WordCall → Result (Unit {0}) TryLockError → Visitor → Type 0
-IsTriedBy lock call told visitor = (answer : Answer) × (told ≡ tried answer) × IsVisitedOnce lock call answer visitor
+IsTriedBy lock call reply visitor = (answer : Answer) × (reply ≡ tried answer) × IsVisitedOnce lock call answer visitor
 
 -- a visitor that came for it tried in a mode; in a mode that takes nothing there is no try, and the visitor has made no call
 abbrev pub IsTried : Lock → Mode → Result (Unit {0}) TryLockError → Visitor → Type 0
-IsTried lock Exclusive told visitor = IsTriedBy lock TryLock told visitor
-IsTried lock Shared told visitor = IsTriedBy lock TryShare told visitor
-IsTried lock WaitExclusive told visitor = (told ≡ Err WouldBlock) × IsNewVisitor (table_of_lock lock) (about_of lock).places visitor
-IsTried lock WaitShared told visitor = (told ≡ Err WouldBlock) × IsNewVisitor (table_of_lock lock) (about_of lock).places visitor
+IsTried lock Exclusive reply visitor = IsTriedBy lock TryLock reply visitor
+IsTried lock Shared reply visitor = IsTriedBy lock TryShare reply visitor
+IsTried lock WaitExclusive reply visitor = (reply ≡ Err WouldBlock) × IsNewVisitor (table_of_lock lock) (about_of lock).places visitor
+IsTried lock WaitShared reply visitor = (reply ≡ Err WouldBlock) × IsNewVisitor (table_of_lock lock) (about_of lock).places visitor
 
 -- a visitor that came for it gave back what a mode takes; one that takes nothing needs no call
 abbrev pub HasGivenBack : Lock → Mode → Visitor → Type 0
@@ -57,10 +57,10 @@ HasGivenBack lock WaitShared visitor = IsNewVisitor (table_of_lock lock) (about_
 
 -- a place was registered in a mode, polled, and its registration cancelled
 abbrev pub IsRegistered : Lock → Mode → Place → Bool → Place → Type 0
-IsRegistered lock mode old told new = (answer : Answer) × (told ≡ is_yes answer) × IsMade (RegisterMode mode) old answer new
+IsRegistered lock mode old reply new = (answer : Answer) × (reply ≡ is_yes answer) × IsMade (RegisterMode mode) old answer new
 
 abbrev pub IsPolled : Lock → Place → Result ℕ Error → Place → Type 0
-IsPolled lock old told new = (answer : Answer) × (told ≡ number_of (polled_lock answer)) × (IsMade Poll old answer new ⊎ IsMade TryPoll old answer new)
+IsPolled lock old reply new = (answer : Answer) × (reply ≡ number_of (polled_lock answer)) × (IsMade Poll old answer new ⊎ IsMade TryPoll old answer new)
 
 abbrev pub IsCancelled : Lock → Place → Place → Type 0
 IsCancelled lock old new = (answer : Answer) × IsMade Cancel old answer new

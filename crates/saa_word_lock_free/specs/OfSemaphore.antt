@@ -29,9 +29,9 @@ abbrev pub Rests : Place → Type 0
 Rests place = registered place ≡ Idle
 
 -- what a try tells: it was granted, or it would have to wait. One that finds the semaphore shut tells that, too: a call at a place is told why
-abbrev pub told_by : Bool → Result (Unit {0}) TryLockError
-told_by true = Ok tt
-told_by false = Err WouldBlock
+abbrev pub try_result_of : Bool → Result (Unit {0}) TryLockError
+try_result_of true = Ok tt
+try_result_of false = Err WouldBlock
 
 -- the number of what a poll tells: a grant, or that the semaphore was shut
 abbrev pub number_of : Result (Unit {0}) Error → Result ℕ Error
@@ -41,7 +41,7 @@ number_of (Err error) = Err error
 
 -- a visitor that came for it tried for so many permits
 abbrev pub IsTried : {max : ℕ} → SemaphoreOf max → ℕ → Result (Unit {0}) TryLockError → Visitor → Type 0
-IsTried semaphore count told visitor = (answer : Answer) × (told ≡ told_by (is_yes answer)) × IsVisitedOnce semaphore (Try count) answer visitor
+IsTried semaphore count reply visitor = (answer : Answer) × (reply ≡ try_result_of (is_yes answer)) × IsVisitedOnce semaphore (Try count) answer visitor
 
 -- a visitor that came for it gave so many permits back
 abbrev pub HasGivenBack : {max : ℕ} → SemaphoreOf max → ℕ → Visitor → Type 0
@@ -49,11 +49,11 @@ HasGivenBack semaphore count visitor = (answer : Answer) × IsVisitedOnce semaph
 
 -- a place was registered for so many permits, polled, and its registration cancelled
 abbrev pub IsRegistered : {max : ℕ} → SemaphoreOf max → ℕ → Place → Bool → Place → Type 0
-IsRegistered semaphore count old told new = (answer : Answer) × (told ≡ is_yes answer) × IsMade semaphore (Register count) old answer new
+IsRegistered semaphore count old reply new = (answer : Answer) × (reply ≡ is_yes answer) × IsMade semaphore (Register count) old answer new
 
 abbrev pub IsPolled : {max : ℕ} → SemaphoreOf max → Place → Result ℕ Error → Place → Type 0
-IsPolled semaphore old told new =
-    (answer : Answer) × (told ≡ number_of (polled answer)) × (IsMade semaphore Poll old answer new ⊎ IsMade semaphore TryPoll old answer new)
+IsPolled semaphore old reply new =
+    (answer : Answer) × (reply ≡ number_of (polled answer)) × (IsMade semaphore Poll old answer new ⊎ IsMade semaphore TryPoll old answer new)
 
 abbrev pub IsCancelled : {max : ℕ} → SemaphoreOf max → Place → Place → Type 0
 IsCancelled semaphore old new = (answer : Answer) × IsMade semaphore Cancel old answer new

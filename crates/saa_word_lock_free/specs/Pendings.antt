@@ -29,19 +29,19 @@ module _ {Ask Place : Type 0} where
 
   -- a place that awaited its answer had this one
   abbrev pub IsAnsweredAt : WordCalls Ask Place → Ask → ℕ → Type 0
-  IsAnsweredAt calls ask value = (place : Place) × (told : Place) × IsAwaited calls ask place × calls.polls place (Ok value) told
+  IsAnsweredAt calls ask value = (place : Place) × (after : Place) × IsAwaited calls ask place × calls.polls place (Ok value) after
 
   -- A future was answered so: its visitor at once, or its place at the last of its polls. The receipt says what the one or the other has seen
   abbrev pub IsAnsweredLater : WordCalls Ask Place → Ask → ℕ → Receipt → Type 0
   IsAnsweredLater calls ask value receipt =
       ((visitor : Visitor) × IsAsked (calls.tries ask) (Some value) visitor × calls.receives_by visitor receipt)
-      ⊎ ((place : Place) × (told : Place) × IsAwaited calls ask place × calls.polls place (Ok value) told × calls.receives told receipt)
+      ⊎ ((place : Place) × (after : Place) × IsAwaited calls ask place × calls.polls place (Ok value) after × calls.receives after receipt)
 
   -- A future was given up: its place, if it had joined, was cancelled
   abbrev pub IsWithdrawn : {Word : Type 0} → WordCalls Ask Place → Option (Borrowed Place Word) → Type 0
   IsWithdrawn calls borrowed = IfSome borrowed (λ at. (left : Place) × calls.cancels at.value left)
 
   -- A future was told so: it was answered, which somebody has a receipt of; or it was told nothing, since it asked for more than there ever is
-  abbrev pub IsToldLater : (Ask → Type 0) → WordCalls Ask Place → Ask → Option ℕ → Type 0
-  IsToldLater fits calls ask None = fits ask → ⊥
-  IsToldLater fits calls ask (Some value) = (receipt : Receipt) × IsAnsweredLater calls ask value receipt
+  abbrev pub FutureAnswers : (Ask → Type 0) → WordCalls Ask Place → Ask → Option ℕ → Type 0
+  FutureAnswers fits calls ask None = fits ask → ⊥
+  FutureAnswers fits calls ask (Some value) = (receipt : Receipt) × IsAnsweredLater calls ask value receipt

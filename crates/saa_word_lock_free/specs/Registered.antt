@@ -52,15 +52,15 @@ module _ {Ask Word : Type 0} where
 
 -- whether a registration says that it was made
 abbrev pub is_yes : Result Bool Full → Bool
-is_yes (Ok told) = told
+is_yes (Ok reply) = reply
 is_yes (Err full) = false
 
 -- What a registration as sync or as async does: it is made exactly where that is said, for what was asked and in that mode, and else nothing has changed
-pub record IsRegistered {Ask Word : Type 0} (ask : Ask) (is_sync : Bool) (old new : Registered Ask Word) (told : Result Bool Full) : Type 0 where
-  pub busy : is_busy old ≡ true → told ≡ Ok false
-  pub made : is_yes told ≡ true → (is_busy new ≡ true) × (mode_of new ≡ Some is_sync)
-  pub asked : is_yes told ≡ true → ask_of new ≡ Some ask
-  pub same : is_yes told ≡ false → new ≡ old
+pub record IsRegistered {Ask Word : Type 0} (ask : Ask) (is_sync : Bool) (old new : Registered Ask Word) (reply : Result Bool Full) : Type 0 where
+  pub busy : is_busy old ≡ true → reply ≡ Ok false
+  pub made : is_yes reply ≡ true → (is_busy new ≡ true) × (mode_of new ≡ Some is_sync)
+  pub asked : is_yes reply ≡ true → ask_of new ≡ Some ask
+  pub same : is_yes reply ≡ false → new ≡ old
 
 module _ {Ask Word Place : Type 0} where
   -- A form of this word, with the pool of this table, takes it: what was answered at once is what a visitor of this word was told that came for it

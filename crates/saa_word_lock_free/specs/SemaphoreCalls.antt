@@ -13,7 +13,7 @@ use Rattle.saa_word_threads.specs.Public.{is_yes}
 use Rattle.saa_word_threads.specs.Semaphores.{IsVisitedOnce, table_of}
 use Rattle.saa_word_lock_free.specs.Calls.{IsAcquired as IsAcquiredBy, IsAnswered as IsAnsweredBy, IsReceivedBy}
 use Rattle.saa_word_lock_free.specs.OfSemaphore.{calls_of}
-use Rattle.saa_word_lock_free.specs.Pendings.{IsToldLater}
+use Rattle.saa_word_lock_free.specs.Pendings.{FutureAnswers}
 use Rattle.saa_word_lock_free.specs.Forms.{FormState, WasFull}
 use Rattle.saa_core_spec.specs.Values.{closed_value}
 use Rattle.saa_core_waits.specs.declared.acquire_error.AcquireError.{AcquireError}
@@ -48,19 +48,19 @@ module _ {max : ℕ} where
   IsGranted semaphore count = (value : ℕ) × (value == closed_value ≡ false) × IsAnswered semaphore count (Ok value)
 
   -- it was told that the semaphore was shut: by its answer, or by a look where it got no place
-  abbrev pub IsToldShut : SemaphoreOf max → ℕ → Type 0
-  IsToldShut semaphore count = IsAnswered semaphore count (Ok closed_value) ⊎ IsDone semaphore IsShut true
+  abbrev pub AnswersClosed : SemaphoreOf max → ℕ → Type 0
+  AnswersClosed semaphore count = IsAnswered semaphore count (Ok closed_value) ⊎ IsDone semaphore IsShut true
 
   -- why a call for so many permits has none: all places were out of the pool, or the semaphore was shut
   abbrev pub WasRefused : FormState (SemaphoreOf max) → ℕ → AcquireError → Type 0
   WasRefused form count Full = WasFull Place form
-  WasRefused form count Closed = IsToldShut form.word count
+  WasRefused form count Closed = AnswersClosed form.word count
 
   -- so many permits were granted: to a try, to a call that waited for them, timed or not, or to a future
   abbrev pub WasGranted : SemaphoreOf max → ℕ → Type 0
   WasGranted semaphore count =
       IsDone semaphore (Try count) true ⊎ (IsGranted semaphore count ⊎ ((value : ℕ) × (value == closed_value ≡ false)
-      × IsToldLater (λ asked. asked ≤ max) (calls_of semaphore) count (Some value)))
+      × FutureAnswers (λ asked. asked ≤ max) (calls_of semaphore) count (Some value)))
 
   -- so many permits were given back: a release was made, which was done, or found fewer out
   abbrev pub TookBack : SemaphoreOf max → ℕ → Type 0

@@ -28,8 +28,8 @@ impl<R: Wait + Drop, W: WordForm> Form<R, W> {
         ensures asked { IsAsked ((W.calls self.now.word).tries ask) result.0 result.1 }
         ensures ours { table_of result.1 ≡ W.table self.now.word }
     {
-        let (told, visitor) = self.word().try_once(self.rt(), ask);
-        (at_once(told), visitor)
+        let (reply, visitor) = self.word().try_once(self.rt(), ask);
+        (at_once(reply), visitor)
     }
 
     // Asks, waits for the answer where it isn't there at once, and takes it.
@@ -39,8 +39,8 @@ impl<R: Wait + Drop, W: WordForm> Form<R, W> {
         ensures answered { IfOk result (λ value. IsAnswered (W.calls self.now.word) ask (Ok value)) }
         ensures full { IfErr result (λ full. WasFull W.Place self.now) }
     {
-        let (told, _visitor) = self.ask_at_once(ask);
-        if let Some(value) = told {
+        let (reply, _visitor) = self.ask_at_once(ask);
+        if let Some(value) = reply {
             return Ok(value);
         }
         match self.wait_at_place(ask) {
@@ -55,11 +55,11 @@ impl<R: Wait + Drop, W: WordForm> Form<R, W> {
         ask: W::Ask,
     ) -> Result<(u8, Receipt), NoPlace<W::Place, W>>
         requires { W.fits ask }
-        ensures acquired { IfOk result (λ told. IsAcquired (W.calls self.now.word) ask (Ok told.0) told.1) }
+        ensures acquired { IfOk result (λ reply. IsAcquired (W.calls self.now.word) ask (Ok reply.0) reply.1) }
         ensures refused { IfErr result (λ no_place. IsRefusedBy self.now no_place) }
     {
-        let (told, mut visitor) = self.ask_at_once(ask);
-        if let Some(value) = told {
+        let (reply, mut visitor) = self.ask_at_once(ask);
+        if let Some(value) = reply {
             let receipt = self.word().receipt_by(&mut visitor);
             return Ok((value, receipt));
         }
@@ -77,8 +77,8 @@ impl<R: Wait + Drop, W: WordForm> Form<R, W> {
         ensures answered { IfOk result (λ value. IsAnswered (W.calls self.now.word) ask (Ok value)) }
         ensures full { IfErr result (λ full. WasFull W.Place self.now) }
     {
-        let (told, _visitor) = self.ask_at_once(ask);
-        if let Some(value) = told {
+        let (reply, _visitor) = self.ask_at_once(ask);
+        if let Some(value) = reply {
             return Ok(value);
         }
         let borrowed = match self.borrow() {
@@ -97,7 +97,7 @@ impl<R: Wait + Drop, W: WordForm> Form<R, W> {
     #[inline(never)]
     fn wait_at_place(&self, ask: W::Ask) -> Result<(u8, Receipt), NoPlace<W::Place, W>>
         requires { W.fits ask }
-        ensures waited { IfOk result (λ told. AcquiresAndPolls (W.calls self.now.word) ask (Ok told.0) told.1) }
+        ensures waited { IfOk result (λ reply. AcquiresAndPolls (W.calls self.now.word) ask (Ok reply.0) reply.1) }
         ensures refused { IfErr result (λ no_place. IsRefusedBy self.now no_place) }
     {
         let borrowed = self.borrow()?;
@@ -129,7 +129,7 @@ impl<R: Wait + Drop, W: WordForm> Form<R, W> {
     fn await_answer(&self, borrowed: BorrowedPlace<W::Place, W>) -> (u8, Receipt)
         requires out { IsOut W.table W.home self.now borrowed }
         requires waits { W.rests borrowed.value → ⊥ }
-        ensures { (told : W.Place) × (W.calls self.now.word).polls borrowed.value (Ok result.0) told × (W.calls self.now.word).receives told result.1 }
+        ensures { (after : W.Place) × (W.calls self.now.word).polls borrowed.value (Ok result.0) after × (W.calls self.now.word).receives after result.1 }
     {
         let mut borrowed = borrowed;
         let answer = self.word().poll(self.rt(), &mut borrowed.value);
@@ -150,11 +150,11 @@ impl<R: Wait + Clock + Drop, W: WordForm> Form<R, W> {
         deadline: Deadline,
     ) -> Result<(Result<u8, Error>, Receipt), NoPlace<W::Place, W>>
         requires { W.fits ask }
-        ensures acquired { IfOk result (λ told. IsAcquired (W.calls self.now.word) ask told.0 told.1) }
+        ensures acquired { IfOk result (λ reply. IsAcquired (W.calls self.now.word) ask reply.0 reply.1) }
         ensures refused { IfErr result (λ no_place. IsRefusedBy self.now no_place) }
     {
-        let (told, mut visitor) = self.ask_at_once(ask);
-        if let Some(value) = told {
+        let (reply, mut visitor) = self.ask_at_once(ask);
+        if let Some(value) = reply {
             let receipt = self.word().receipt_by(&mut visitor);
             return Ok((Ok(value), receipt));
         }
@@ -203,10 +203,10 @@ impl<R: Wait + Clock + Drop, W: WordForm> Form<R, W> {
 
 // The number of what a try told; nothing where it would have to wait.
 #[inline(always)]
-fn at_once(told: Result<(), TryLockError>) -> Option<u8>
-    ensures { result ≡ number_at_once told }
+fn at_once(reply: Result<(), TryLockError>) -> Option<u8>
+    ensures { result ≡ number_at_once reply }
 {
-    match told {
+    match reply {
         Ok(()) => Some(GRANTED),
         Err(TryLockError::Poisoned) => Some(POISONED),
         Err(TryLockError::WouldBlock) => None,

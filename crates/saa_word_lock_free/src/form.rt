@@ -65,7 +65,7 @@ impl<R: Wait + Drop, W: WordForm> Form<R, W> {
         places: Vec<W::Place>,
         spin_policy: SpinPolicy,
     ) -> Result<Self, AllocError>
-        requires few { vec_len places < 65536 }
+        requires bounded { vec_len places < 65536 }
         requires ours { All (λ place. (W.home place ≡ W.table word) × W.rests place) places.items }
         ensures word { IfOk result (λ form. form.word ≡ word) }
         ensures spin_policy { IfOk result (λ form. form.spin_policy ≡ spin_policy) }

@@ -11,7 +11,7 @@ ghost use Rattle.saa_word_steps.specs.declared.rules.Rules.TheVariants.{Modes};
 ghost use Rattle.saa_word_threads.specs.Dealt.{numbers};
 ghost use Rattle.saa_word_threads.specs.Locks.{about_of, table_of};
 ghost use Rattle.saa_word_threads.specs.Receipts.{IsLedOn, IsReceiptAt, said};
-ghost use Rattle.saa_word_lock_free.specs.LockCalls.{IsAcquired, IsDone, IsDoneWith, IsToldIn, IsTriedIn, IsTriedWith};
+ghost use Rattle.saa_word_lock_free.specs.LockCalls.{IsAcquired, IsDone, IsDoneWith, SaysGranted, IsTriedIn, IsTriedWith};
 ghost use Rattle.saa_word_lock_free.specs.OfLock.{calls_of};
 ghost use Rattle.saa_word_lock_free.specs.Registered.{ask_of, is_busy, is_yes as was_made, mode_of, unregistered};
 
@@ -121,8 +121,8 @@ impl<R: Wait + Drop> Form<R, Word> {
     pub fn try_lock(&self) -> Result<(), TryLockError>
         ensures { IsTriedIn self.now.word Exclusive result }
     {
-        let (told, _visitor) = self.word().try_lock_once(self.rt());
-        told
+        let (reply, _visitor) = self.word().try_lock_once(self.rt());
+        reply
     }
 
     /// Takes a share of the lock if there is no waiter and one is left; never waits for it. Wakes no waiter.
@@ -132,8 +132,8 @@ impl<R: Wait + Drop> Form<R, Word> {
     pub fn try_share(&self) -> Result<(), TryLockError>
         ensures { IsTriedIn self.now.word Shared result }
     {
-        let (told, _visitor) = self.word().try_share_once(self.rt());
-        told
+        let (reply, _visitor) = self.word().try_share_once(self.rt());
+        reply
     }
 
     /// As [`Self::try_lock`] or, in mode `Shared`, [`Self::try_share`], with a receipt; in a wait mode it is `WouldBlock`, and no call is made.
@@ -141,9 +141,9 @@ impl<R: Wait + Drop> Form<R, Word> {
         ensures { IsTriedWith self.now.word mode result.0 result.1 }
     {
         let word = self.word();
-        let (told, mut visitor) = word.try_once(self.rt(), mode);
+        let (reply, mut visitor) = word.try_once(self.rt(), mode);
         let receipt = word.receipt_by(&mut visitor);
-        (told, receipt)
+        (reply, receipt)
     }
 
     /// Gives the lock of one owner back, grants the oldest waiters while they fit, and wakes exactly those.
@@ -248,7 +248,7 @@ impl<R: Wait + Drop> Form<R, Word> {
     /// Nothing stays registered in any case.
     #[inline(always)]
     pub fn lock_sync(&self) -> Result<bool, Full>
-        ensures told { IfOk result (IsToldIn self.now.word Exclusive) }
+        ensures answered { IfOk result (SaysGranted self.now.word Exclusive) }
         ensures full { IfErr result (λ full. WasFull Place self.now) }
     {
         self.take(Mode::Exclusive)
@@ -257,7 +257,7 @@ impl<R: Wait + Drop> Form<R, Word> {
     /// Takes a share of the lock; waits and answers as [`Self::lock_sync`] does.
     #[inline(always)]
     pub fn share_sync(&self) -> Result<bool, Full>
-        ensures told { IfOk result (IsToldIn self.now.word Shared) }
+        ensures answered { IfOk result (SaysGranted self.now.word Shared) }
         ensures full { IfErr result (λ full. WasFull Place self.now) }
     {
         self.take(Mode::Shared)
@@ -266,7 +266,7 @@ impl<R: Wait + Drop> Form<R, Word> {
     // Takes the lock in a mode.
     #[inline(always)]
     fn take(&self, mode: Mode) -> Result<bool, Full>
-        ensures told { IfOk result (IsToldIn self.now.word mode) }
+        ensures answered { IfOk result (SaysGranted self.now.word mode) }
         ensures full { IfErr result (λ full. WasFull Place self.now) }
     {
         match self.acquire(mode) {
@@ -281,7 +281,7 @@ impl<R: Wait + Drop> Form<R, Word> {
     ///
     /// An error is the witness that all places were out of the pool as it looked.
     pub fn take_witnessed(&self, mode: Mode) -> Result<(u8, Receipt), NoPlace<Place, Word>>
-        ensures acquired { IfOk result (λ told. IsAcquired self.now.word mode (Ok told.0) told.1) }
+        ensures acquired { IfOk result (λ reply. IsAcquired self.now.word mode (Ok reply.0) reply.1) }
         ensures refused { IfErr result (λ no_place. IsRefusedBy self.now no_place) }
     {
         self.acquire_witnessed(mode)
@@ -293,7 +293,7 @@ impl<R: Wait + Drop> Form<R, Word> {
     /// no place is in.
     pub fn lock_sync_with<F: FnOnce() + Drop>(&self, begin_wait: F) -> Result<bool, Full>
         requires { F.pre begin_wait }
-        ensures told { IfOk result (IsToldIn self.now.word Exclusive) }
+        ensures answered { IfOk result (SaysGranted self.now.word Exclusive) }
         ensures full { IfErr result (λ full. WasFull Place self.now) }
     {
         self.take_with(Mode::Exclusive, begin_wait)
@@ -302,7 +302,7 @@ impl<R: Wait + Drop> Form<R, Word> {
     /// Takes a share as [`Self::share_sync`] does, and calls `begin_wait` where it joins the queue, as [`Self::lock_sync_with`] does.
     pub fn share_sync_with<F: FnOnce() + Drop>(&self, begin_wait: F) -> Result<bool, Full>
         requires { F.pre begin_wait }
-        ensures told { IfOk result (IsToldIn self.now.word Shared) }
+        ensures answered { IfOk result (SaysGranted self.now.word Shared) }
         ensures full { IfErr result (λ full. WasFull Place self.now) }
     {
         self.take_with(Mode::Shared, begin_wait)
@@ -311,7 +311,7 @@ impl<R: Wait + Drop> Form<R, Word> {
     // Takes the lock in a mode, with a callback.
     fn take_with<F: FnOnce() + Drop>(&self, mode: Mode, begin_wait: F) -> Result<bool, Full>
         requires { F.pre begin_wait }
-        ensures told { IfOk result (IsToldIn self.now.word mode) }
+        ensures answered { IfOk result (SaysGranted self.now.word mode) }
         ensures full { IfErr result (λ full. WasFull Place self.now) }
     {
         match self.acquire_with(mode, begin_wait) {

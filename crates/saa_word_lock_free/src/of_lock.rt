@@ -39,7 +39,7 @@ impl WordForm for Lock {
 
     ghost rests_here = { λ lock place home rests. (home, rests) };
 
-    fn may_fit(_mode: Mode) -> bool {
+    fn may_succeed(_mode: Mode) -> bool {
         true
     }
 

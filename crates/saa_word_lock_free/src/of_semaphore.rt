@@ -1,7 +1,7 @@
 //! The word's semaphore, as a word form whose asks are counts of permits.
 
 ghost use Rattle.std.specs.Prelude.{◌≡◌};
-ghost use Rattle.saa_word_lock_free.specs.OfSemaphore.{number_of, told_by};
+ghost use Rattle.saa_word_lock_free.specs.OfSemaphore.{number_of, try_result_of};
 
 use crate::waiting::{CLOSED, GRANTED};
 use crate::word_form::WordForm;
@@ -41,14 +41,14 @@ impl<const MAX: usize> WordForm for SemaphoreOf<MAX> {
 
     ghost rests_here = { λ semaphore place home rests. (home, rests) };
 
-    fn may_fit(count: usize) -> bool {
+    fn may_succeed(count: usize) -> bool {
         count <= MAX
     }
 
     #[inline(always)]
     fn try_once<R: Wait>(&self, rt: &R, count: usize) -> (Result<(), TryLockError>, Visitor) {
         let (is_granted, visitor) = self.try_acquire_many_once(rt, count);
-        (told(is_granted), visitor)
+        (try_result(is_granted), visitor)
     }
 
     fn give_back<R: Wait>(&self, rt: &R, count: usize) -> Visitor {
@@ -119,8 +119,8 @@ impl<const MAX: usize> WordForm for SemaphoreOf<MAX> {
 
 // What a try tells.
 #[inline(always)]
-fn told(is_granted: bool) -> Result<(), TryLockError>
-    ensures { result ≡ told_by is_granted }
+fn try_result(is_granted: bool) -> Result<(), TryLockError>
+    ensures { result ≡ try_result_of is_granted }
 {
     if is_granted {
         Ok(())

@@ -47,7 +47,7 @@ pub trait PagerForm: WordForm {
     /// What a poll is told, by the number that the form answered, or by why there is none.
     fn read(polled: Result<u8, Error>) -> Self::Value
         ensures reads { result ≡ reading polled }
-        ensures told { fault result ≡ error_of polled };
+        ensures fault { fault result ≡ error_of polled };
 }
 
 impl<R: Wait + Drop, W: PagerForm> SyncResult<Registration<W>> for Form<R, W> {

@@ -122,8 +122,8 @@ impl<R: Wait + Drop, const MAX: usize> RawSemaphoreAsync for Form<R, Word<MAX>> 
         if pending.has_ended {
             return cx.yield_now();
         }
-        let (told, _has_joined) = self.advance(pending, cx);
-        match told {
+        let (reply, _has_joined) = self.advance(pending, cx);
+        match reply {
             Poll::Ready(Ok(Some(value))) => {
                 if value == CLOSED {
                     return Poll::Ready(Err(AcquireError::Closed));
@@ -157,10 +157,10 @@ impl<R: Wait + Drop, const MAX: usize> Form<R, Word<MAX>> {
         &self,
         count: usize,
     ) -> Result<Option<PermitOf<'_, R, MAX>>, AcquireError>
-        ensures semaphore { IfOk result (λ told. IfSome told (λ permits. permits.holder.now ≡ self.now)) }
-        ensures count { IfOk result (λ told. IfSome told (λ permits. permits.count ≡ count)) }
-        ensures granted { IfOk result (λ told. OnSome told (WasGranted self.now.word count)) }
-        ensures answer { IfOk result (λ told. IsSome told ↔ (count ≤ MAX)) }
+        ensures semaphore { IfOk result (λ reply. IfSome reply (λ permits. permits.holder.now ≡ self.now)) }
+        ensures count { IfOk result (λ reply. IfSome reply (λ permits. permits.count ≡ count)) }
+        ensures granted { IfOk result (λ reply. OnSome reply (WasGranted self.now.word count)) }
+        ensures answer { IfOk result (λ reply. IsSome reply ↔ (count ≤ MAX)) }
     {
         PermitFrom::acquire(self, count)
     }

@@ -29,8 +29,8 @@ impl<R: Wait + Drop> RawLock for Form<R, Word> {
 
     #[inline(always)]
     fn try_take(&self, mode: Mode) -> Option<Receipt> {
-        let (told, receipt) = self.try_witnessed(mode);
-        match told {
+        let (reply, receipt) = self.try_witnessed(mode);
+        match reply {
             Ok(()) => Some(receipt),
             Err(_refused) => None,
         }
@@ -118,7 +118,7 @@ impl<R: Wait + Clock + Drop> RawLockUntil for Form<R, Word> {
     fn take_until(&self, mode: Mode, deadline: Deadline) -> Result<Option<Receipt>, Full> {
         for _ in self.rt().forever() {
             let (answer, receipt) = match self.take_witnessed_until(mode, deadline) {
-                Ok(told) => told,
+                Ok(reply) => reply,
                 Err(_no_place) => return Err(Full),
             };
             match answer {
@@ -153,8 +153,8 @@ impl<R: Wait + Drop> RawLockAsync for Form<R, Word> {
         if pending.has_ended {
             return cx.yield_now();
         }
-        let (told, _has_joined) = self.advance_witnessed(pending, cx);
-        match told {
+        let (reply, _has_joined) = self.advance_witnessed(pending, cx);
+        match reply {
             Poll::Ready(Ok(Some((value, receipt)))) => {
                 if value == GRANTED {
                     Poll::Ready(Ok(receipt))

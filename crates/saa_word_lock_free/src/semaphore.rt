@@ -321,7 +321,7 @@ impl<R: Wait + Drop, const MAX: usize> Form<R, Word<MAX>> {
         count: usize,
     ) -> Result<(u8, Receipt), NoPlace<Place, Word<MAX>>>
         requires { count ≤ MAX }
-        ensures acquired { IfOk result (λ told. IsAcquired self.now.word count (Ok told.0) told.1) }
+        ensures acquired { IfOk result (λ reply. IsAcquired self.now.word count (Ok reply.0) reply.1) }
         ensures refused { IfErr result (λ no_place. IsRefusedBy self.now no_place) }
     {
         self.acquire_witnessed(count)

@@ -44,7 +44,7 @@ impl<W: WordForm> Pending<W> {
 }
 
 /// What a poll of a future tells: its answer with a receipt, `None` where its registration is false, and `Full` where no place is in.
-pub(crate) type Told = Poll<Result<Option<(u8, Receipt)>, Full>>;
+pub(crate) type Polled = Poll<Result<Option<(u8, Receipt)>, Full>>;
 
 impl<R: Wait + Drop, W: WordForm> Form<R, W> {
     // Polls what is pending for a task. Says too whether it joined the queue by that.
@@ -52,11 +52,11 @@ impl<R: Wait + Drop, W: WordForm> Form<R, W> {
         &self,
         pending: &mut Pending<W>,
         cx: &mut Context<'_>,
-    ) -> (Told, bool)
+    ) -> (Polled, bool)
         requires admitted { MayAwait (IsOut W.table W.home self.now) W.rests (IsAwaited (W.calls self.now.word) pending.old.ask) pending.old.borrowed }
         requires unended { pending.old.has_ended ≡ false }
-        ensures answered { IfReady result.0 (λ answer. IfOk answer (λ told. IfSome told (λ with_receipt. IsAnsweredLater (W.calls self.now.word) pending.old.ask with_receipt.0 with_receipt.1))) }
-        ensures refused { IfReady result.0 (λ answer. IfOk answer (λ told. IsNone told → W.fits pending.old.ask → ⊥)) }
+        ensures answered { IfReady result.0 (λ answer. IfOk answer (λ reply. IfSome reply (λ with_receipt. IsAnsweredLater (W.calls self.now.word) pending.old.ask with_receipt.0 with_receipt.1))) }
+        ensures refused { IfReady result.0 (λ answer. IfOk answer (λ reply. IsNone reply → W.fits pending.old.ask → ⊥)) }
         ensures full { IfReady result.0 (λ answer. IfErr answer (λ full. WasFull W.Place self.now)) }
         ensures armed { OnPending result.0 (IsArmed cx.new) }
         ensures heard { OnPending result.0 (Hears cx.new (W.source self.now.word)) }
@@ -74,11 +74,11 @@ impl<R: Wait + Drop, W: WordForm> Form<R, W> {
     }
 
     // The first poll: asks by a visitor, and where that would have to wait registers a place, and polls it.
-    fn begin(&self, pending: &mut Pending<W>, cx: &mut Context<'_>) -> (Told, bool)
+    fn begin(&self, pending: &mut Pending<W>, cx: &mut Context<'_>) -> (Polled, bool)
         requires idle { pending.old.borrowed ≡ None }
         requires unended { pending.old.has_ended ≡ false }
-        ensures answered { IfReady result.0 (λ answer. IfOk answer (λ told. IfSome told (λ with_receipt. IsAnsweredLater (W.calls self.now.word) pending.old.ask with_receipt.0 with_receipt.1))) }
-        ensures refused { IfReady result.0 (λ answer. IfOk answer (λ told. IsNone told → W.fits pending.old.ask → ⊥)) }
+        ensures answered { IfReady result.0 (λ answer. IfOk answer (λ reply. IfSome reply (λ with_receipt. IsAnsweredLater (W.calls self.now.word) pending.old.ask with_receipt.0 with_receipt.1))) }
+        ensures refused { IfReady result.0 (λ answer. IfOk answer (λ reply. IsNone reply → W.fits pending.old.ask → ⊥)) }
         ensures full { IfReady result.0 (λ answer. IfErr answer (λ full. WasFull W.Place self.now)) }
         ensures armed { OnPending result.0 (IsArmed cx.new) }
         ensures heard { OnPending result.0 (Hears cx.new (W.source self.now.word)) }
@@ -90,12 +90,12 @@ impl<R: Wait + Drop, W: WordForm> Form<R, W> {
         ensures admitted { MayAwait (IsOut W.table W.home self.now) W.rests (IsAwaited (W.calls self.now.word) pending.new.ask) pending.new.borrowed }
     {
         let ask = pending.ask;
-        if !W::may_fit(ask) {
+        if !W::may_succeed(ask) {
             pending.has_ended = true;
             return (Poll::Ready(Ok(None)), false);
         }
-        let (told, mut visitor) = self.ask_at_once(ask);
-        if let Some(value) = told {
+        let (reply, mut visitor) = self.ask_at_once(ask);
+        if let Some(value) = reply {
             let receipt = self.word().receipt_by(&mut visitor);
             pending.has_ended = true;
             return (Poll::Ready(Ok(Some((value, receipt)))), false);
@@ -119,14 +119,14 @@ impl<R: Wait + Drop, W: WordForm> Form<R, W> {
         pending: &mut Pending<W>,
         borrowed: BorrowedPlace<W::Place, W>,
         cx: &mut Context<'_>,
-    ) -> Told
+    ) -> Polled
         requires idle { pending.old.borrowed ≡ None }
         requires unended { pending.old.has_ended ≡ false }
         requires out { IsOut W.table W.home self.now borrowed }
         requires waits { W.rests borrowed.value → ⊥ }
         requires awaited { IsAwaited (W.calls self.now.word) pending.old.ask borrowed.value }
-        ensures answered { IfReady result (λ answer. IfOk answer (λ told. IfSome told (λ with_receipt. IsAnsweredLater (W.calls self.now.word) pending.old.ask with_receipt.0 with_receipt.1))) }
-        ensures refused { IfReady result (λ answer. IfOk answer (λ told. IsNone told → W.fits pending.old.ask → ⊥)) }
+        ensures answered { IfReady result (λ answer. IfOk answer (λ reply. IfSome reply (λ with_receipt. IsAnsweredLater (W.calls self.now.word) pending.old.ask with_receipt.0 with_receipt.1))) }
+        ensures refused { IfReady result (λ answer. IfOk answer (λ reply. IsNone reply → W.fits pending.old.ask → ⊥)) }
         ensures full { IfReady result (λ answer. IfErr answer (λ full. WasFull W.Place self.now)) }
         ensures armed { OnPending result (IsArmed cx.new) }
         ensures heard { OnPending result (Hears cx.new (W.source self.now.word)) }
@@ -158,7 +158,7 @@ impl<R: Wait + Drop, W: WordForm> Form<R, W> {
 impl<R: Wait + Drop, W: WordForm> Pends for Form<R, W> {
     ghost use Rattle.std.specs.Prelude.{is_some};
     ghost use Rattle.saa_word_lock_free.specs.Forms.{IsOut, WasFull, source_of};
-    ghost use Rattle.saa_word_lock_free.specs.Pendings.{IsAwaited, IsToldLater, IsWithdrawn, MayAwait};
+    ghost use Rattle.saa_word_lock_free.specs.Pendings.{IsAwaited, FutureAnswers, IsWithdrawn, MayAwait};
 
     type Pending = Pending<W>;
 
@@ -172,7 +172,7 @@ impl<R: Wait + Drop, W: WordForm> Pends for Form<R, W> {
 
     ghost has_ended = { λ pending. pending.has_ended };
 
-    ghost answers = { λ form pending. IsToldLater W.fits (W.calls form.word) pending.ask };
+    ghost answers = { λ form pending. FutureAnswers W.fits (W.calls form.word) pending.ask };
 
     ghost withdraws = { λ form pending. IsWithdrawn (W.calls form.word) pending.borrowed };
 
@@ -191,8 +191,8 @@ impl<R: Wait + Drop, W: WordForm> Pends for Form<R, W> {
         pending: &mut Pending<W>,
         cx: &mut Context<'_>,
     ) -> (Poll<Result<Option<u8>, Full>>, bool) {
-        let (told, has_joined) = self.advance_witnessed(pending, cx);
-        let polled = match told {
+        let (reply, has_joined) = self.advance_witnessed(pending, cx);
+        let polled = match reply {
             Poll::Ready(Ok(Some((value, _receipt)))) => Poll::Ready(Ok(Some(value))),
             Poll::Ready(Ok(None)) => Poll::Ready(Ok(None)),
             Poll::Ready(Err(full)) => Poll::Ready(Err(full)),

@@ -25,7 +25,7 @@ impl<R: Wait + Clock + Drop, const MAX: usize> Form<R, SemaphoreWord<MAX>> {
     /// `Ok(Some(()))`: it is granted. `Ok(None)`: time is up, and nothing is registered or taken; those behind are granted while they fit. `Full` comes at
     /// once, where it would have to wait and no place is in. `Closed`: the semaphore is shut, or was while this waited; nothing is registered or taken.
     pub fn acquire_sync_for(&self, duration: Duration) -> Result<Option<()>, AcquireError>
-        ensures called { IfOk result (λ told. (answer : Result ℕ Error) × (told ≡ one_in_time answer) × (is_closed_answer answer ≡ false) × IsAnswered self.now.word 1 answer) }
+        ensures called { IfOk result (λ reply. (answer : Result ℕ Error) × (reply ≡ one_in_time answer) × (is_closed_answer answer ≡ false) × IsAnswered self.now.word 1 answer) }
         ensures refused { IfErr result (WasRefused self.now 1) }
     {
         self.one_by(Deadline::after(self.rt(), duration))
@@ -33,7 +33,7 @@ impl<R: Wait + Clock + Drop, const MAX: usize> Form<R, SemaphoreWord<MAX>> {
 
     /// Takes one permit as [`Self::acquire_sync_for`] does, and waits for it until this instant.
     pub fn acquire_sync_until(&self, deadline: Instant) -> Result<Option<()>, AcquireError>
-        ensures called { IfOk result (λ told. (answer : Result ℕ Error) × (told ≡ one_in_time answer) × (is_closed_answer answer ≡ false) × IsAnswered self.now.word 1 answer) }
+        ensures called { IfOk result (λ reply. (answer : Result ℕ Error) × (reply ≡ one_in_time answer) × (is_closed_answer answer ≡ false) × IsAnswered self.now.word 1 answer) }
         ensures refused { IfErr result (WasRefused self.now 1) }
     {
         self.one_by(Deadline::At(deadline))
@@ -51,8 +51,8 @@ impl<R: Wait + Clock + Drop, const MAX: usize> Form<R, SemaphoreWord<MAX>> {
         duration: Duration,
     ) -> Result<Option<bool>, AcquireError>
         ensures refused { IfErr result (WasRefused self.now count) }
-        ensures called { count ≤ MAX → IfOk result (λ told. (answer : Result ℕ Error) × (told ≡ many_in_time answer) × (is_closed_answer answer ≡ false) × IsAnswered self.now.word count answer) }
-        ensures answer { IfOk result (λ told. IfSome told (λ is_granted. IsTrue is_granted ↔ (count ≤ MAX))) }
+        ensures called { count ≤ MAX → IfOk result (λ reply. (answer : Result ℕ Error) × (reply ≡ many_in_time answer) × (is_closed_answer answer ≡ false) × IsAnswered self.now.word count answer) }
+        ensures answer { IfOk result (λ reply. IfSome reply (λ is_granted. IsTrue is_granted ↔ (count ≤ MAX))) }
         ensures too_many { MAX < count → result ≡ Ok (Some false) }
     {
         self.many_by(count, Deadline::after(self.rt(), duration))
@@ -65,8 +65,8 @@ impl<R: Wait + Clock + Drop, const MAX: usize> Form<R, SemaphoreWord<MAX>> {
         deadline: Instant,
     ) -> Result<Option<bool>, AcquireError>
         ensures refused { IfErr result (WasRefused self.now count) }
-        ensures called { count ≤ MAX → IfOk result (λ told. (answer : Result ℕ Error) × (told ≡ many_in_time answer) × (is_closed_answer answer ≡ false) × IsAnswered self.now.word count answer) }
-        ensures answer { IfOk result (λ told. IfSome told (λ is_granted. IsTrue is_granted ↔ (count ≤ MAX))) }
+        ensures called { count ≤ MAX → IfOk result (λ reply. (answer : Result ℕ Error) × (reply ≡ many_in_time answer) × (is_closed_answer answer ≡ false) × IsAnswered self.now.word count answer) }
+        ensures answer { IfOk result (λ reply. IfSome reply (λ is_granted. IsTrue is_granted ↔ (count ≤ MAX))) }
         ensures too_many { MAX < count → result ≡ Ok (Some false) }
     {
         self.many_by(count, Deadline::At(deadline))
@@ -77,9 +77,9 @@ impl<R: Wait + Clock + Drop, const MAX: usize> Form<R, SemaphoreWord<MAX>> {
         &self,
         duration: Duration,
     ) -> Result<Option<PermitOf<'_, R, MAX>>, AcquireError>
-        ensures semaphore { IfOk result (λ told. IfSome told (λ permit. permit.holder.now ≡ self.now)) }
-        ensures count { IfOk result (λ told. IfSome told (λ permit. permit.count ≡ 1)) }
-        ensures granted { IfOk result (λ told. OnSome told (WasGranted self.now.word 1)) }
+        ensures semaphore { IfOk result (λ reply. IfSome reply (λ permit. permit.holder.now ≡ self.now)) }
+        ensures count { IfOk result (λ reply. IfSome reply (λ permit. permit.count ≡ 1)) }
+        ensures granted { IfOk result (λ reply. OnSome reply (WasGranted self.now.word 1)) }
     {
         PermitFrom::acquire_one_until(self, Deadline::after(self.rt(), duration))
     }
@@ -89,9 +89,9 @@ impl<R: Wait + Clock + Drop, const MAX: usize> Form<R, SemaphoreWord<MAX>> {
         &self,
         deadline: Instant,
     ) -> Result<Option<PermitOf<'_, R, MAX>>, AcquireError>
-        ensures semaphore { IfOk result (λ told. IfSome told (λ permit. permit.holder.now ≡ self.now)) }
-        ensures count { IfOk result (λ told. IfSome told (λ permit. permit.count ≡ 1)) }
-        ensures granted { IfOk result (λ told. OnSome told (WasGranted self.now.word 1)) }
+        ensures semaphore { IfOk result (λ reply. IfSome reply (λ permit. permit.holder.now ≡ self.now)) }
+        ensures count { IfOk result (λ reply. IfSome reply (λ permit. permit.count ≡ 1)) }
+        ensures granted { IfOk result (λ reply. OnSome reply (WasGranted self.now.word 1)) }
     {
         PermitFrom::acquire_one_until(self, Deadline::At(deadline))
     }
@@ -130,7 +130,7 @@ impl<R: Wait + Clock + Drop, const MAX: usize> Form<R, SemaphoreWord<MAX>> {
         deadline: Deadline,
     ) -> Result<(Result<u8, Error>, Receipt), NoPlace<SemaphorePlace, SemaphoreWord<MAX>>>
         requires { count ≤ MAX }
-        ensures acquired { IfOk result (λ told. IsAcquired self.now.word count told.0 told.1) }
+        ensures acquired { IfOk result (λ reply. IsAcquired self.now.word count reply.0 reply.1) }
         ensures refused { IfErr result (λ no_place. IsRefusedBy self.now no_place) }
     {
         self.acquire_until(count, deadline)
@@ -138,7 +138,7 @@ impl<R: Wait + Clock + Drop, const MAX: usize> Form<R, SemaphoreWord<MAX>> {
 
     // One permit, by this time.
     fn one_by(&self, deadline: Deadline) -> Result<Option<()>, AcquireError>
-        ensures called { IfOk result (λ told. (answer : Result ℕ Error) × (told ≡ one_in_time answer) × (is_closed_answer answer ≡ false) × IsAnswered self.now.word 1 answer) }
+        ensures called { IfOk result (λ reply. (answer : Result ℕ Error) × (reply ≡ one_in_time answer) × (is_closed_answer answer ≡ false) × IsAnswered self.now.word 1 answer) }
         ensures refused { IfErr result (WasRefused self.now 1) }
     {
         // A semaphore has one permit at least, which its type says.
@@ -157,8 +157,8 @@ impl<R: Wait + Clock + Drop, const MAX: usize> Form<R, SemaphoreWord<MAX>> {
     // So many permits, by this time.
     fn many_by(&self, count: usize, deadline: Deadline) -> Result<Option<bool>, AcquireError>
         ensures refused { IfErr result (WasRefused self.now count) }
-        ensures called { count ≤ MAX → IfOk result (λ told. (answer : Result ℕ Error) × (told ≡ many_in_time answer) × (is_closed_answer answer ≡ false) × IsAnswered self.now.word count answer) }
-        ensures answer { IfOk result (λ told. IfSome told (λ is_granted. IsTrue is_granted ↔ (count ≤ MAX))) }
+        ensures called { count ≤ MAX → IfOk result (λ reply. (answer : Result ℕ Error) × (reply ≡ many_in_time answer) × (is_closed_answer answer ≡ false) × IsAnswered self.now.word count answer) }
+        ensures answer { IfOk result (λ reply. IfSome reply (λ is_granted. IsTrue is_granted ↔ (count ≤ MAX))) }
         ensures too_many { MAX < count → result ≡ Ok (Some false) }
     {
         if count > MAX {
@@ -182,7 +182,7 @@ impl<R: Wait + Clock + Drop> Form<R, LockWord> {
     /// `Ok(Some(true))`: it is granted. `Ok(Some(false))`: the lock is or was poisoned. `Ok(None)`: time is up, and nothing is registered or taken; those
     /// behind are granted while they fit. `Full` comes at once, where it would have to wait and no place is in.
     pub fn lock_sync_for(&self, duration: Duration) -> Result<Option<bool>, Full>
-        ensures called { IfOk result (λ told. (answer : Result ℕ Error) × (told ≡ in_time answer) × IsAnsweredIn self.now.word Exclusive answer) }
+        ensures called { IfOk result (λ reply. (answer : Result ℕ Error) × (reply ≡ in_time answer) × IsAnsweredIn self.now.word Exclusive answer) }
         ensures full { IfErr result (λ full. WasFull LockPlace self.now) }
     {
         self.take_by(Mode::Exclusive, Deadline::after(self.rt(), duration))
@@ -190,7 +190,7 @@ impl<R: Wait + Clock + Drop> Form<R, LockWord> {
 
     /// Takes the lock as [`Self::lock_sync_for`] does, and waits for it until this instant.
     pub fn lock_sync_until(&self, deadline: Instant) -> Result<Option<bool>, Full>
-        ensures called { IfOk result (λ told. (answer : Result ℕ Error) × (told ≡ in_time answer) × IsAnsweredIn self.now.word Exclusive answer) }
+        ensures called { IfOk result (λ reply. (answer : Result ℕ Error) × (reply ≡ in_time answer) × IsAnsweredIn self.now.word Exclusive answer) }
         ensures full { IfErr result (λ full. WasFull LockPlace self.now) }
     {
         self.take_by(Mode::Exclusive, Deadline::At(deadline))
@@ -198,7 +198,7 @@ impl<R: Wait + Clock + Drop> Form<R, LockWord> {
 
     /// Takes a share of the lock, and waits and answers as [`Self::lock_sync_for`] does.
     pub fn share_sync_for(&self, duration: Duration) -> Result<Option<bool>, Full>
-        ensures called { IfOk result (λ told. (answer : Result ℕ Error) × (told ≡ in_time answer) × IsAnsweredIn self.now.word Shared answer) }
+        ensures called { IfOk result (λ reply. (answer : Result ℕ Error) × (reply ≡ in_time answer) × IsAnsweredIn self.now.word Shared answer) }
         ensures full { IfErr result (λ full. WasFull LockPlace self.now) }
     {
         self.take_by(Mode::Shared, Deadline::after(self.rt(), duration))
@@ -206,7 +206,7 @@ impl<R: Wait + Clock + Drop> Form<R, LockWord> {
 
     /// Takes a share as [`Self::share_sync_for`] does, and waits for it until this instant.
     pub fn share_sync_until(&self, deadline: Instant) -> Result<Option<bool>, Full>
-        ensures called { IfOk result (λ told. (answer : Result ℕ Error) × (told ≡ in_time answer) × IsAnsweredIn self.now.word Shared answer) }
+        ensures called { IfOk result (λ reply. (answer : Result ℕ Error) × (reply ≡ in_time answer) × IsAnsweredIn self.now.word Shared answer) }
         ensures full { IfErr result (λ full. WasFull LockPlace self.now) }
     {
         self.take_by(Mode::Shared, Deadline::At(deadline))
@@ -219,7 +219,7 @@ impl<R: Wait + Clock + Drop> Form<R, LockWord> {
         mode: Mode,
         deadline: Deadline,
     ) -> Result<(Result<u8, Error>, Receipt), NoPlace<LockPlace, LockWord>>
-        ensures acquired { IfOk result (λ told. IsAcquiredIn self.now.word mode told.0 told.1) }
+        ensures acquired { IfOk result (λ reply. IsAcquiredIn self.now.word mode reply.0 reply.1) }
         ensures refused { IfErr result (λ no_place. IsRefusedBy self.now no_place) }
     {
         self.acquire_until(mode, deadline)
@@ -227,7 +227,7 @@ impl<R: Wait + Clock + Drop> Form<R, LockWord> {
 
     // Takes the lock in a mode, by this time.
     fn take_by(&self, mode: Mode, deadline: Deadline) -> Result<Option<bool>, Full>
-        ensures called { IfOk result (λ told. (answer : Result ℕ Error) × (told ≡ in_time answer) × IsAnsweredIn self.now.word mode answer) }
+        ensures called { IfOk result (λ reply. (answer : Result ℕ Error) × (reply ≡ in_time answer) × IsAnsweredIn self.now.word mode answer) }
         ensures full { IfErr result (λ full. WasFull LockPlace self.now) }
     {
         match self.acquire_by(mode, deadline) {

@@ -152,11 +152,11 @@ impl<R: Wait + Drop, W: WordForm> Form<R, W> {
         ensures full { IfErr result (λ full. WasFull W.Place self.now) }
         ensures admitted { TakesAt W.calls self.now registration.new }
     {
-        if registration.is_registered() || !W::may_fit(ask) {
+        if registration.is_registered() || !W::may_succeed(ask) {
             return Ok(false);
         }
-        let (told, visitor) = self.ask_at_once(ask);
-        if let Some(value) = told {
+        let (reply, visitor) = self.ask_at_once(ask);
+        if let Some(value) = reply {
             *registration = Registration::at_once(value, ask, visitor, is_sync);
             return Ok(true);
         }

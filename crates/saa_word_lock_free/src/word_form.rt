@@ -54,7 +54,7 @@ pub trait WordForm: Sized + Drop {
     ghost rests_here: { (word : Self) (place : Self.Place) → home place ≡ table word → rests place → (calls word).rests place };
 
     /// Whether an ask is for no more than there ever is.
-    fn may_fit(ask: Self::Ask) -> bool
+    fn may_succeed(ask: Self::Ask) -> bool
         ensures { IsTrue result ↔ fits ask };
 
     /// Asks once, with no place, and waits for nothing. What can't be asked so is refused.

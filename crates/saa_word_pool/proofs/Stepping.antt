@@ -175,14 +175,14 @@ module _ {T K : Type 0} (belongs : T → Type 0) (key : K) where
   -- A value that is in its slot again is counted
   pub counts-back : (slots word id : ℕ) (me : Me (Maybe T) (View K)) → me ≡ (at_part key Returning, []) → word ≡ slots → slots < 65536
       → Allows (IsPool belongs) slots id me word (λ n. (n + 1) % 2 ^ 64) (λ found after. HasCountedBack me.0.key after)
-  counts-back slots word id me is at few =
+  counts-back slots word id me is at bounded =
       subst (λ (m : Me (Maybe T) (View K)). Allows (IsPool belongs) slots id m word (λ n. (n + 1) % 2 ^ 64) (λ found after. HasCountedBack m.0.key after)) (sym is)
       (λ s pool sized there small.
       let found : ℕ = get_or s.words word 0 in
       let here : word ≡ length s.homes = at ∙ sym sized in
       let found_is : found ≡ get_or s.words (length s.homes) 0 = ap (λ n. get_or s.words n 0) here in
       let sums = pool.1.sums in
-      let low : found + 1 < 2 ^ 64 = omega (arith, found_is, sums, few, sized) in
+      let low : found + 1 < 2 ^ 64 = omega (arith, found_is, sums, bounded, sized) in
       let fits : (found + 1) % 2 ^ 64 ≡ found + 1 = grind (arith, low) in
       let out = some-out belongs s pool id key Returning there refl in (
         at_part key Returned,

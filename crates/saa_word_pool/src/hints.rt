@@ -20,7 +20,7 @@ pub(crate) struct Hints {
     summaries: Vec<AtomicU64>,
     slots: u16,
     ghost wide: { (slots ≤ vec_len leaves * 64) × (vec_len leaves ≤ vec_len summaries * 64) },
-    ghost few: { (vec_len leaves < 1025) × (vec_len summaries < 17) },
+    ghost bounded: { (vec_len leaves < 1025) × (vec_len summaries < 17) },
 }
 
 impl Hints {

@@ -73,7 +73,7 @@ impl<T: Drop, K, P: PoolRule<T, K>> Pool<T, K, P> {
     ///
     /// `AllocError` if there is no memory: then the values are dropped.
     pub fn new(alloc: Global, values: Vec<T>, about: &K) -> Result<Self, AllocError>
-        requires few { vec_len values < 65536 }
+        requires bounded { vec_len values < 65536 }
         requires belong { All (P.belongs about.now) values.items }
         ensures made { IfOk result (λ pool. (places_of pool ≡ vec_len values) × (key_of pool ≡ about.now)) }
     {
@@ -117,7 +117,7 @@ impl<T: Drop, K, P: PoolRule<T, K>> Pool<T, K, P> {
     pub fn close(self, room: Vec<T>) -> Vec<T>
         requires { (vec_len room ≡ 0) × (places_of self ≤ vec_capacity room) }
         ensures belong { All (P.belongs (key_of self)) result.items }
-        ensures few { vec_len result ≤ places_of self }
+        ensures bounded { vec_len result ≤ places_of self }
     {
         let Pool {
             table,

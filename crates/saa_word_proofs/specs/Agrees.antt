@@ -18,7 +18,7 @@ pub record Begins (rules : Rules) (places me : ℕ) (now : Configuration) (s : O
   pub room : places < 65536
   pub here : me < places
   pub state : AbstractState
-  pub stands : Invariant (needs_of rules) places now.row now.standing state
+  pub invariant : Invariant (needs_of rules) places now.row now.standing state
   pub quiet : PlacesAreQuiescent now.standing
   pub mirrors : PlacesRepresent (needs_of rules) places now.standing state s
 
@@ -26,7 +26,7 @@ pub record Begins (rules : Rules) (places me : ℕ) (now : Configuration) (s : O
 -- the call has left
 pub record Agrees (needs : Needs) (places me : ℕ) (is_sync : Bool) (call : WordCall) (s : Object) (answer : Answer) (last : Configuration) : Type 0 where
   pub state : AbstractState
-  pub stands : Invariant needs places last.row last.standing state
+  pub invariant : Invariant needs places last.row last.standing state
   pub quiet : PlacesAreQuiescent last.standing
   pub mirrors : PlacesRepresent needs places last.standing state (called needs.is_lock me is_sync call s).state
   pub same : answer ≡ (called needs.is_lock me is_sync call s).reply

@@ -12,8 +12,8 @@ use Rattle.saa_word_proofs.specs.Rows.{IsRefusableAndFlagged}
 -- a place waits at a stage: a poll in the line or with an answer due, a cancel with an answer due, a cancel that finds the flag set, and
 -- poison that finds one owner and the flag set, and a shut that finds the flag set
 abbrev pub IsBlockedAt : Needs → AbstractState → ℕ → Word → Stage → Type 0
-IsBlockedAt needs state me seen (Take Awaits) = (is_in me state.line || is_some (state.due me)) ≡ true
-IsBlockedAt needs state me seen (Take (Gives request)) = is_some (state.due me) ≡ true
+IsBlockedAt needs state me seen (Take Awaits) = (is_in me state.line || is_some (state.granted me)) ≡ true
+IsBlockedAt needs state me seen (Take (Gives request)) = is_some (state.granted me) ≡ true
 IsBlockedAt needs state me seen FlagLoad = seen.is_flagged ≡ true
 IsBlockedAt needs state me seen (FlagExchange old) = seen.is_flagged ≡ true
 IsBlockedAt needs state me seen PoisonLoad = IsRefusableAndFlagged needs seen

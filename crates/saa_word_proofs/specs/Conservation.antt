@@ -60,8 +60,8 @@ is_grant None = false
 is_grant (Some value) = value == granted_value
 
 -- an answer says that a place was granted, or, where the semaphore is shut, that it is
-abbrev pub IsTold : Bool → ℕ → Type 0
-IsTold poisoned value = (value ≡ granted_value) ⊎ ((poisoned ≡ true) × (value ≡ closed_value))
+abbrev pub MayAnswer : Bool → ℕ → Type 0
+MayAnswer poisoned value = (value ≡ granted_value) ⊎ ((poisoned ≡ true) × (value ≡ closed_value))
 
 -- Whether an event may be one of a semaphore that was shut before it, or not. It is shut once, and never opened again. Only where it was shut does an
 -- ask find it so, and is an answer taken that is no grant, but says so. No event lowers it to a share

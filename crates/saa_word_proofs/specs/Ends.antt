@@ -11,4 +11,4 @@ pub record Ends (needs : Needs) (places me : ℕ) (call : WordCall) (now : Confi
   pub answer : Answer
   pub last : Configuration
   pub called : IsCalledAlone needs places me call steps now answer last
-  pub few : steps ≤ most
+  pub bounded : steps ≤ most

@@ -45,7 +45,7 @@ pub record WordsShow (needs : Needs) (places : ℕ) (row : ℕ → ℕ) (state :
   pub whole : row 0 < 2 ^ (count_bits + 18)
   pub exact : state.poisoned ≡ true → row 0 ≡ word_number count_bits (refusing_word needs (main_of row))
   pub requests : AreAsking (line_of row) state.line
-  pub shown : (place : ℕ) → place < places → row (places + place + 1) ≡ answer_number (state.shown place)
+  pub answered : (place : ℕ) → place < places → row (places + place + 1) ≡ answer_number (state.answered place)
   pub line : (main_of row).is_flagged ≡ false → IsChain (line_of row) (main_of row).tail (newest_first state.line)
   pub closed : (main_of row).is_flagged ≡ false → state.unclosed ≡ false
   pub settled : (main_of row).is_flagged ≡ false → IsSettledAt needs state.count state.line
@@ -55,7 +55,7 @@ pub record WordsShow (needs : Needs) (places : ℕ) (row : ℕ → ℕ) (state :
 -- The flag is clear, no answer is due, the object isn't open, its line is settled, and the line words link all waiters
 pub record WordsAreQuiescent (needs : Needs) (row : ℕ → ℕ) (state : AbstractState) : Type 0 where
   pub clear : (main_of row).is_flagged ≡ false
-  pub paid : (place : ℕ) → state.due place ≡ None
+  pub paid : (place : ℕ) → state.granted place ≡ None
   pub closed : state.unclosed ≡ false
   pub settled : IsSettledAt needs state.count state.line
   pub linked : IsBehind (line_of row) 0 state.line

@@ -160,10 +160,10 @@ IsOwn word _ = Unit {0}
 
 -- the places whose answers a place has to show, oldest first, and of which value: it shows the newest of them next
 abbrev pub IsShowing : List (ℕ × ℕ) → ℕ → Stage → Type 0
-IsShowing owed answer_value (ShowLoad current value afterwards) = (newest 0 owed ≡ current) × (is_empty owed ≡ false) × (value ≡ answer_value)
-IsShowing owed answer_value (ShowStore current next value afterwards) =
-    (before : List (ℕ × ℕ)) × (asker : ℕ × ℕ) × (owed ≡ before ++ asker ∷ []) × (current ≡ asker.0 + 1) × (next ≡ newest 0 before) × (value ≡ answer_value)
-IsShowing owed answer_value _ = owed ≡ []
+IsShowing unshown answer_value (ShowLoad current value afterwards) = (newest 0 unshown ≡ current) × (is_empty unshown ≡ false) × (value ≡ answer_value)
+IsShowing unshown answer_value (ShowStore current next value afterwards) =
+    (before : List (ℕ × ℕ)) × (asker : ℕ × ℕ) × (unshown ≡ before ++ asker ∷ []) × (current ≡ asker.0 + 1) × (next ≡ newest 0 before) × (value ≡ answer_value)
+IsShowing unshown answer_value _ = unshown ≡ []
 
 -- The line as the holder of the flag sees it: those of the front, who are granted or still to be passed, those behind them, up to
 -- the tail that it saw, and the waiters who were enqueued since. No more is held than it saw
@@ -266,26 +266,26 @@ pub record AreSeats (places : ℕ) (standing : ℕ → Place) (state : AbstractS
   pub beyond : (place : ℕ) → places ≤ place → joins_line (standing place).stage ≡ false
 
 -- the answer words are what is shown
-pub record AreAnswers (places : ℕ) (row : ℕ → ℕ) (shown : ℕ → Option ℕ) : Type 0 where
-  pub words : (place : ℕ) → place < places → row (places + place + 1) ≡ answer_number (shown place)
-  pub small : (place value : ℕ) → shown place ≡ Some value → value < 256
+pub record AreAnswers (places : ℕ) (row : ℕ → ℕ) (answered : ℕ → Option ℕ) : Type 0 where
+  pub words : (place : ℕ) → place < places → row (places + place + 1) ≡ answer_number (answered place)
+  pub small : (place value : ℕ) → answered place ≡ Some value → value < 256
 
 -- each answer that is due is to be shown by the place that granted it, which follows the links of the places that it has to show and shows one value
-pub record AreDebts (words : ℕ → LineWord) (due : ℕ → Option ℕ) (granter : ℕ → ℕ) (owed : ℕ → List (ℕ × ℕ)) (answer_value : ℕ → ℕ) : Type 0 where
-  pub due_to : (place other : ℕ) → is_in other (owed place) ≡ true → (granter other ≡ place) × (due other ≡ Some (answer_value place))
-  pub paid_by : (other : ℕ) → is_some (due other) ≡ true → is_in other (owed (granter other)) ≡ true
-  pub once : (place other : ℕ) → times other (owed place) ≤ 1
-  pub links : (place : ℕ) → IsBehind words 0 (owed place)
+pub record AreGrants (words : ℕ → LineWord) (granted : ℕ → Option ℕ) (granter : ℕ → ℕ) (unshown : ℕ → List (ℕ × ℕ)) (answer_value : ℕ → ℕ) : Type 0 where
+  pub granted_to : (place other : ℕ) → is_in other (unshown place) ≡ true → (granter other ≡ place) × (granted other ≡ Some (answer_value place))
+  pub unshown_by : (other : ℕ) → is_some (granted other) ≡ true → is_in other (unshown (granter other)) ≡ true
+  pub once : (place other : ℕ) → times other (unshown place) ≤ 1
+  pub links : (place : ℕ) → IsBehind words 0 (unshown place)
   pub small : (place : ℕ) → answer_value place < 256
 
 -- what each place remembers is true of the words and of the object; one holds the flag at most
 pub record AreStages (needs : Needs) (words : ℕ → LineWord) (standing : ℕ → Place) (held : ℕ) (line cut : List (ℕ × ℕ)) (holder : ℕ)
-    (owed : ℕ → List (ℕ × ℕ)) (answer_value : ℕ → ℕ) : Type 0 where
+    (unshown : ℕ → List (ℕ × ℕ)) (answer_value : ℕ → ℕ) : Type 0 where
   pub ranged : (place : ℕ) → IsRanged needs (standing place).stage
   pub alone : (place : ℕ) → IsLocallyTrue needs (standing place).registration (standing place).back (standing place).stage
   pub apart : (place : ℕ) → gives_up (standing place).back (standing place).stage ≡ true → is_in place line ≡ false
   pub own : (place : ℕ) → IsOwn (words place) (standing place).stage
-  pub showing : (place : ℕ) → IsShowing (owed place) (answer_value place) (standing place).stage
+  pub showing : (place : ℕ) → IsShowing (unshown place) (answer_value place) (standing place).stage
   pub one : (place : ℕ) → is_holder (standing place).stage ≡ (holder == place + 1)
   pub holding : (place : ℕ) → holder ≡ place + 1 → IsHolding needs words place held line cut (standing place).stage
 
@@ -294,12 +294,12 @@ pub record Invariant (needs : Needs) (places : ℕ) (row : ℕ → ℕ) (standin
   pub holder : ℕ
   pub cut : List (ℕ × ℕ)
   pub uncut : List (ℕ × ℕ)
-  pub owed : ℕ → List (ℕ × ℕ)
+  pub unshown : ℕ → List (ℕ × ℕ)
   pub answer_value : ℕ → ℕ
   pub free : (holder == 0) ≡ true → cut ≡ []
   pub main : IsMain needs (row 0) state holder
   pub line : IsLine (line_of row) state.line cut uncut
   pub seats : AreSeats places standing state
-  pub answers : AreAnswers places row state.shown
-  pub debts : AreDebts (line_of row) state.due state.granter owed answer_value
-  pub stages : AreStages needs (line_of row) standing state.count state.line cut holder owed answer_value
+  pub answers : AreAnswers places row state.answered
+  pub grants : AreGrants (line_of row) state.granted state.granter unshown answer_value
+  pub stages : AreStages needs (line_of row) standing state.count state.line cut holder unshown answer_value

@@ -39,8 +39,8 @@ waiters needs (asker ∷ rest) = (asker.0, needs.read asker.1) ∷ waiters needs
 
 -- the entry of a place by what it is registered as and the answer that is shown to it: a place that joined the line waits until there is one
 abbrev pub entry_of : Needs → Registration → Option ℕ → (is_sync : Bool) → Entry
-entry_of needs IsIdle shown is_sync = Idle
-entry_of needs (AnsweredAtOnce value request) shown is_sync = Answered value (needs.read request) is_sync false
+entry_of needs IsIdle answered is_sync = Idle
+entry_of needs (AnsweredAtOnce value request) answered is_sync = Answered value (needs.read request) is_sync false
 entry_of needs (Queued request) None is_sync = Waiting (needs.read request) is_sync
 entry_of needs (Queued request) (Some value) is_sync = Answered value (needs.read request) is_sync true
 
@@ -63,7 +63,7 @@ pub record Represents (needs : Needs) (places : ℕ) (registered : ℕ → Regis
   pub line : s.line ≡ waiters needs state.line
   pub names : length s.book ≡ places
   pub entries : (place : ℕ) → place < places
-      → (is_sync : Bool) × (entry_at s.book place ≡ entry_of needs (registered place) (state.shown place) is_sync)
+      → (is_sync : Bool) × (entry_at s.book place ≡ entry_of needs (registered place) (state.answered place) is_sync)
   pub room : s.room ≡ places
   pub alone : s.outside ≡ 0
 

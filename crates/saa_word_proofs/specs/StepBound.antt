@@ -125,14 +125,14 @@ IsKept needs places row standing me other =
     ≤ step_bound places row (standing other).back (standing other).stage
 
 -- how many steps a place has made, once it made one more; a look that finds that it has to wait is none
-abbrev pub made_by : ℕ → Next → ℕ
-made_by made Waits = made
-made_by made _ = made + 1
+abbrev pub steps_made_by : ℕ → Next → ℕ
+steps_made_by made Waits = made
+steps_made_by made _ = made + 1
 
 -- how many steps each place has made since another one last changed the main word, once a place made one more, by which the main word is
 -- the same or not
 abbrev pub counted : (ℕ → ℕ) → ℕ → Next → Bool → ℕ → ℕ
-counted made me next same place = if place == me then made_by (made place) next else (if same then made place else 0)
+counted made me next same place = if place == me then steps_made_by (made place) next else (if same then made place else 0)
 
 -- what each place has made and what it has left are so many steps at most
 abbrev pub AreWithin : ℕ → (ℕ → ℕ) → (ℕ → Place) → (ℕ → ℕ) → Type 0

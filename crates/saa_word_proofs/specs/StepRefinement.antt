@@ -98,6 +98,6 @@ pub record StepRefines (needs : Needs) (places : ℕ) (row : ℕ → ℕ) (stand
   pub run : IsRun needs state (of_place me events) last
   pub names : named events ≡ named_at needs stage (row (word_at (operation_of needs places me stage)))
   pub inside : word_at (operation_of needs places me stage) < places + places + 1
-  pub stands : Invariant needs places (row_after row (operation_of needs places me stage))
+  pub invariant : Invariant needs places (row_after row (operation_of needs places me stage))
       (updated standing me (place_after (standing me) (next_of needs me (standing me) stage (row (word_at (operation_of needs places me stage))))))
       last

@@ -50,4 +50,4 @@ AreTurns whole history = AreTurnsFrom whole false history
 
 -- nobody has an answer that waits to be shown or taken
 abbrev pub NobodyIsAnswered : AbstractState → Type 0
-NobodyIsAnswered state = (place : ℕ) → (state.due place ≡ None) × (state.shown place ≡ None)
+NobodyIsAnswered state = (place : ℕ) → (state.granted place ≡ None) × (state.answered place ≡ None)

@@ -5,7 +5,7 @@ ghost use Rattle.saa_core_spec.specs.Object.{one_if, times};
 ghost use Rattle.saa_word_steps.specs.Needs.{permit_needs};
 ghost use Rattle.saa_word_steps.specs.declared.event.Event.{Event};
 ghost use Rattle.saa_word_steps.specs.AbstractState.{AbstractState, IsRun, opening};
-ghost use Rattle.saa_word_proofs.specs.Conservation.{AreOfPermits, ConservesPermits, IsTold, is_grant, tally_of};
+ghost use Rattle.saa_word_proofs.specs.Conservation.{AreOfPermits, ConservesPermits, MayAnswer, is_grant, tally_of};
 
 /// After every list of events that are enabled where they come, from the moment when so many permits of a semaphore are withheld
 /// and nobody waits.
@@ -22,10 +22,10 @@ pub fn conservation()
     ensures each_once { (bound withheld : ℕ) (events : List (ℕ × Event)) (last : AbstractState)
         → IsRun (permit_needs bound) (opening withheld) events last → (place : ℕ)
         → times place (tally_of (permit_needs bound) withheld events).pending
-        ≡ one_if (is_grant (last.due place)) + one_if (is_grant (last.shown place)) }
+        ≡ one_if (is_grant (last.granted place)) + one_if (is_grant (last.answered place)) }
     ensures granted { (bound withheld : ℕ) (events : List (ℕ × Event)) (last : AbstractState)
         → IsRun (permit_needs bound) (opening withheld) events last → (place value : ℕ)
-        → (last.due place ≡ Some value → IsTold last.poisoned value) × (last.shown place ≡ Some value → IsTold last.poisoned value) }
+        → (last.granted place ≡ Some value → MayAnswer last.poisoned value) × (last.answered place ≡ Some value → MayAnswer last.poisoned value) }
     ensures of_permits { (bound withheld : ℕ) (events : List (ℕ × Event)) (last : AbstractState)
         → IsRun (permit_needs bound) (opening withheld) events last → AreOfPermits events }
 {}

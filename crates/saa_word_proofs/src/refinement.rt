@@ -48,7 +48,7 @@ pub fn opens()
 /// A call that starts at a place in none uses no word and is no event: words and places refine it still. It has named nothing. A visitor may start any
 /// that won't join the line.
 pub fn starts()
-    ensures stands { (needs : Needs) → needs.top < 2 ^ count_bits → (places : ℕ) (row : ℕ → ℕ) (standing : ℕ → Place) (state : AbstractState) (me : ℕ) (call : WordCall)
+    ensures invariant { (needs : Needs) → needs.top < 2 ^ count_bits → (places : ℕ) (row : ℕ → ℕ) (standing : ℕ → Place) (state : AbstractState) (me : ℕ) (call : WordCall)
         → (places ≤ me → joins_line (place_after (standing me) (started needs (standing me) call)).stage ≡ false)
         → Invariant needs places row standing state → (standing me).stage ≡ Quiet → is_taken needs.is_lock call ≡ true
         → Invariant needs places row (updated standing me (place_after (standing me) (started needs (standing me) call))) state }

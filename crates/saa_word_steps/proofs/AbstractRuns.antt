@@ -170,9 +170,9 @@ once-step needs state place (Joined request) allowed was other =
       | inl same ↦
           let is : place ≡ other = same_number place other same in
           let waits : times other state.line ≡ 0 = ap (λ (n : ℕ). times n state.line) (sym is) ∙ waits-none place state.line allowed.2 in
-          let due : one_if (is_some (state.due other)) ≡ 0 = ap (λ (n : ℕ). one_if (is_some (state.due n))) (sym is) ∙ ap (λ (a : Option ℕ). one_if (is_some a)) allowed.3 in
-          let shown : one_if (is_some (state.shown other)) ≡ 0 = ap (λ (n : ℕ). one_if (is_some (state.shown n))) (sym is) ∙ ap (λ (a : Option ℕ). one_if (is_some a)) allowed.4 in
-          omega (arith, waits, due, shown, waits-push other state.line (place, request), one_if-le (place == other))
+          let granted : one_if (is_some (state.granted other)) ≡ 0 = ap (λ (n : ℕ). one_if (is_some (state.granted n))) (sym is) ∙ ap (λ (a : Option ℕ). one_if (is_some a)) allowed.3 in
+          let answered : one_if (is_some (state.answered other)) ≡ 0 = ap (λ (n : ℕ). one_if (is_some (state.answered n))) (sym is) ∙ ap (λ (a : Option ℕ). one_if (is_some a)) allowed.4 in
+          omega (arith, waits, granted, answered, waits-push other state.line (place, request), one_if-le (place == other))
       | inr apart ↦ omega (arith, was other, waits-push other state.line (place, request), ap one_if apart)
     ]
 once-step needs state place (Released request) allowed was other = was other
@@ -183,10 +183,10 @@ once-step needs state place AskedPoisoned allowed was other = was other
 once-step needs state place Cancelled allowed was other = omega (arith, was other, waits-without place other state.line)
 once-step needs state place (Granted askers) allowed was other =
     let parts = waits-parts other askers state.line in
-    omega (arith, answered-once other 0 (take askers state.line) state.due (times other (drop askers state.line) + one_if (is_some (state.shown other))) (omega (arith, was other, parts)))
+    omega (arith, answered-once other 0 (take askers state.line) state.granted (times other (drop askers state.line) + one_if (is_some (state.answered other))) (omega (arith, was other, parts)))
 once-step needs state place Closed allowed was other = was other
 once-step needs state place Poisoned allowed was other =
-    omega (arith, answered-once other 2 state.line state.due (one_if (is_some (state.shown other))) (omega (arith, was other)))
+    omega (arith, answered-once other 2 state.line state.granted (one_if (is_some (state.answered other))) (omega (arith, was other)))
 once-step needs state place NotPoisoned allowed was other = was other
 once-step needs state place Cleared allowed was other = was other
 once-step needs state place NotCleared allowed was other = was other
@@ -195,8 +195,8 @@ once-step needs state place (Showed shown_place) allowed was other =
     elim (cases_Bool (other == shown_place)) [
       | inl same ↦
           let is : shown_place ≡ other = sym (same_number other shown_place same) in
-          let due : one_if (is_some (state.due other)) ≡ 1 = ap (λ (n : ℕ). one_if (is_some (state.due n))) (sym is) ∙ ap one_if allowed.0 in
-          rw same (omega (arith, was other, due, one_if-le (is_some (state.due shown_place))))
+          let granted : one_if (is_some (state.granted other)) ≡ 1 = ap (λ (n : ℕ). one_if (is_some (state.granted n))) (sym is) ∙ ap one_if allowed.0 in
+          rw same (omega (arith, was other, granted, one_if-le (is_some (state.granted shown_place))))
       | inr apart ↦ rw apart (was other)
     ]
 once-step needs state place (AnswerTaken value) allowed was other =

@@ -54,8 +54,8 @@ plus-count count (suc zero) fits =
       | nobody none is ↦ (rw is (omega (arith, none)), omega (arith, none))
       | alone all is ↦ let wrong : fits_count lock_needs count 1 ≡ false = rw is refl in absurd (cc)
       | several some other is ↦
-          let few : nat_lt count 62 ≡ true = sym (ap (λ (l : LockState). lock_fits l AskShared) is) ∙ fits in
-          (rw is refl, grind (arith, nat_tests, few))
+          let bounded : nat_lt count 62 ≡ true = sym (ap (λ (l : LockState). lock_fits l AskShared) is) ∙ fits in
+          (rw is refl, grind (arith, nat_tests, bounded))
     ]
 plus-count count (suc (suc zero)) fits =
     elim (case_of count) [
@@ -68,8 +68,8 @@ plus-count count (suc (suc (suc more))) fits =
       | nobody none is ↦ (rw is (omega (arith, none)), omega (arith, none))
       | alone all is ↦ let wrong : lock_fits (lock_at count) WaitShared ≡ false = rw is refl in absurd (cc)
       | several some other is ↦
-          let few : nat_lt count 62 ≡ true = sym (ap (λ (l : LockState). lock_fits l WaitShared) is) ∙ fits in
-          (rw is (omega arith), grind (arith, nat_tests, few))
+          let bounded : nat_lt count 62 ≡ true = sym (ap (λ (l : LockState). lock_fits l WaitShared) is) ∙ fits in
+          (rw is (omega arith), grind (arith, nat_tests, bounded))
     ]
 
 -- what fits a lock fits it with fewer owners

@@ -10,16 +10,16 @@ use Rattle.saa_word_steps.specs.Needs.{Needs, fits_count, forgets, kept, left_co
 
 -- What is held, as a count, and whether every request is refused, since a lock is poisoned or a semaphore shut; the waiters, oldest
 -- first, each with the number of what it asks; whether something was given back or left since the line was last settled; the answers
--- of places that are granted and not shown yet, and the place that granted each of them, which has to show it (for a place with no
--- answer due it says nothing); and the answers that are shown and not taken yet
+-- of places that are granted and not shown yet, and the place that granted each of them, which has to show it (for a place with
+-- none it says nothing); and the answers that are shown and not taken yet
 pub record AbstractState : Type 0 where
   pub count : ℕ
   pub poisoned : Bool
   pub line : List (ℕ × ℕ)
   pub unclosed : Bool
-  pub due : ℕ → Option ℕ
+  pub granted : ℕ → Option ℕ
   pub granter : ℕ → ℕ
-  pub shown : ℕ → Option ℕ
+  pub answered : ℕ → Option ℕ
 
 -- so much is held, and nobody waits or has an answer
 abbrev pub opening : ℕ → AbstractState
@@ -28,9 +28,9 @@ opening count = record {
   poisoned = false;
   line = [];
   unclosed = false;
-  due = λ place. None;
+  granted = λ place. None;
   granter = λ place. 0;
-  shown = λ place. None;
+  answered = λ place. None;
 }
 
 -- whether there are no waiters
@@ -66,9 +66,9 @@ answered_with value askers answers place = if is_in place askers then Some value
 abbrev pub granted_by : ℕ → List (ℕ × ℕ) → (ℕ → ℕ) → ℕ → ℕ
 granted_by place askers granter other = if is_in other askers then place else granter other
 
--- a place owes nothing: it has shown each answer that it granted
-abbrev pub OwesNothing : ℕ → AbstractState → Type 0
-OwesNothing place state = (other : ℕ) → is_some (state.due other) ≡ true → state.granter other ≢ place
+-- a place has shown each answer that it granted
+abbrev pub HasShownAll : ℕ → AbstractState → Type 0
+HasShownAll place state = (other : ℕ) → is_some (state.granted other) ≡ true → state.granter other ≢ place
 
 -- a map with another answer at one place
 abbrev pub with_answer : ℕ → Option ℕ → (ℕ → Option ℕ) → ℕ → Option ℕ
@@ -92,7 +92,7 @@ IsEnabled needs state place (Acquired request) = (state.poisoned ≡ false) × (
 IsEnabled needs state place (Refused request) = (state.poisoned ≡ false) × (must_wait needs state request ≡ true)
 IsEnabled needs state place (Joined request) =
     (state.poisoned ≡ false) × (must_wait needs state request ≡ true)
-    × (is_in place state.line ≡ false) × (state.due place ≡ None) × (state.shown place ≡ None)
+    × (is_in place state.line ≡ false) × (state.granted place ≡ None) × (state.answered place ≡ None)
 IsEnabled needs state place (Released request) = (forgets needs state.poisoned ≡ false) × ((left : ℕ) × (left_count needs state.count request ≡ Some left))
 IsEnabled needs state place (ReleasedNothing request) = (forgets needs state.poisoned ≡ false) → left_count needs state.count request ≡ None
 IsEnabled needs state place Lowered = IsOwned needs state
@@ -106,9 +106,9 @@ IsEnabled needs state place Poisoned = (state.unclosed ≡ false) × MayRefuse n
 IsEnabled needs state place NotPoisoned = MayRefuse needs state → ⊥
 IsEnabled needs state place Cleared = (state.poisoned ≡ true) × (needs.is_lock ≡ true)
 IsEnabled needs state place NotCleared = state.poisoned ≡ false
-IsEnabled needs state place (Showed shown_place) = (is_some (state.due shown_place) ≡ true) × (state.granter shown_place ≡ place)
-IsEnabled needs state place (AnswerTaken value) = state.shown place ≡ Some value
-IsEnabled needs state place NotReady = (is_in place state.line || is_some (state.due place)) ≡ true
+IsEnabled needs state place (Showed shown_place) = (is_some (state.granted shown_place) ≡ true) × (state.granter shown_place ≡ place)
+IsEnabled needs state place (AnswerTaken value) = state.answered place ≡ Some value
+IsEnabled needs state place NotReady = (is_in place state.line || is_some (state.granted place)) ≡ true
 IsEnabled needs state place (Read count poisoned) = (state.count ≡ count) × (state.poisoned ≡ poisoned)
 
 -- the count that is left once a request is given back; unchanged where it isn't held
@@ -130,7 +130,7 @@ after_event needs state place (Granted askers) =
     record state {
       count = state.count + takes_of needs (take askers state.line);
       line = drop askers state.line;
-      due = answered_with 0 (take askers state.line) state.due;
+      granted = answered_with 0 (take askers state.line) state.granted;
       granter = granted_by place (take askers state.line) state.granter;
     }
 after_event needs state place Closed = record state { unclosed = false }
@@ -139,13 +139,13 @@ after_event needs state place Poisoned =
       count = kept needs state.count;
       poisoned = true;
       line = [];
-      due = answered_with 2 state.line state.due;
+      granted = answered_with 2 state.line state.granted;
       granter = granted_by place state.line state.granter;
     }
 after_event needs state place Cleared = record state { poisoned = false }
 after_event needs state place (Showed shown_place) =
-    record state { due = with_answer shown_place None state.due; shown = with_answer shown_place (state.due shown_place) state.shown }
-after_event needs state place (AnswerTaken value) = record state { shown = with_answer place None state.shown }
+    record state { granted = with_answer shown_place None state.granted; answered = with_answer shown_place (state.granted shown_place) state.answered }
+after_event needs state place (AnswerTaken value) = record state { answered = with_answer place None state.answered }
 after_event needs state place (Refused request) = state
 after_event needs state place (ReleasedNothing request) = state
 after_event needs state place NotLowered = state
@@ -162,4 +162,4 @@ IsRun needs state (event ∷ events) last = IsEnabled needs state event.0 event.
 
 -- how often a place is held: it waits, or its answer is to be shown, or is shown and not taken yet
 abbrev pub held_by : ℕ → AbstractState → ℕ
-held_by place state = times place state.line + one_if (is_some (state.due place)) + one_if (is_some (state.shown place))
+held_by place state = times place state.line + one_if (is_some (state.granted place)) + one_if (is_some (state.answered place))

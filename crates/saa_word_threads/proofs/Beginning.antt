@@ -18,7 +18,7 @@ use Rattle.saa_word_proofs.specs.Rows.{updated}
 use Rattle.saa_word_proofs.specs.StepRefinement.{place_after}
 use Rattle.saa_word_proofs.proofs.RefinementLemmas.Lists.{all-same, updated-at, updated-same}
 use Rattle.saa_word_proofs.proofs.RefinementLemmas.Starting.{starts-anyone}
-use Rattle.saa_word_threads.specs.Told.{Begins, RestsAfter, resting_as, taken_once}
+use Rattle.saa_word_threads.specs.Moves.{Begins, RestsAfter, resting_as, taken_once}
 
 -- the last of two updates at one place is what stands
 pub updated-twice : (standing : ℕ → Place) (me : ℕ) (one other : Place) → updated (updated standing me one) me other ≡ updated standing me other

@@ -29,13 +29,11 @@ use Rattle.saa_word_proofs.specs.StepRefinement.{named_at, place_after}
 use Rattle.saa_word_proofs.specs.History.{named}
 use Rattle.saa_word_proofs.proofs.RefinementLemmas.Calls.{under-next}
 use Rattle.saa_word_proofs.proofs.RefinementLemmas.Starting.{call-begun}
-use Rattle.saa_word_proofs.proofs.SoloLemmas.Paths.{left-append, left-next}
-use Rattle.saa_word_proofs.proofs.SoloLemmas.Ready.{started-ready-anyone}
-use Rattle.saa_word_proofs.proofs.SoloLemmas.Registered.{started-as}
+use Rattle.saa_word_proofs.proofs.SoloLemmas.Registered.{left-append, left-next, started-ready-anyone, started-as}
 use Rattle.saa_word_threads.specs.declared.table.View.{View}
 use Rattle.saa_word_threads.specs.Called.{HasEvents, IsCalled, IsCalledFrom, InCall, InCallNext, is_single}
 use Rattle.saa_word_threads.specs.Public.{is_granted}
-use Rattle.saa_word_threads.specs.Told.{Extends, RestsAfter, IsLookOnly, Moves, MovesOrStays, is_showing, prepares, resting_as, taken_once, unless_joining}
+use Rattle.saa_word_threads.specs.Moves.{Extends, RestsAfter, IsLookOnly, Moves, MovesOrStays, is_showing, prepares, resting_as, taken_once, unless_joining}
 use Rattle.saa_word_threads.proofs.Growing.{extends-append, extends-none, named-append}
 
 -- a place that is done rests where it stands

@@ -23,7 +23,7 @@ use Rattle.saa_word_threads.specs.declared.call.Pending.{Pending}
 use Rattle.saa_word_threads.specs.declared.form.Form.{Form}
 use Rattle.saa_word_threads.specs.Pending.{GoesOn, HasEnded, HasFound, IsPending, Seat, needs}
 use Rattle.saa_word_threads.specs.Straight.{grants_at, lowers_to, takes_flag}
-use Rattle.saa_word_threads.specs.Told.{prepares, unless_joining}
+use Rattle.saa_word_threads.specs.Moves.{prepares, unless_joining}
 
 both : (one other : Bool) → one && other ≡ true → (one ≡ true) × (other ≡ true)
 both true other is = (refl, is)

@@ -17,7 +17,7 @@ use Rattle.saa_word_steps.specs.Readings.{poisoned_word}
 use Rattle.saa_word_proofs.specs.Refinement.{IsVisiting, waits_behind}
 use Rattle.saa_word_proofs.specs.StepRefinement.{decided_events, gave, gave_not, given_events, left_events, named_at, poisoning_events}
 use Rattle.saa_word_threads.specs.declared.table.View.{View}
-use Rattle.saa_word_threads.specs.Told.{Extends}
+use Rattle.saa_word_threads.specs.Moves.{Extends}
 
 -- A history behind another one
 

@@ -125,7 +125,7 @@ module _ (about : About) (s : State (Unit {0}) View) (kept : Kept about s) (id o
     dealt = kept.dealt;
     run = kept.run;
     wide = kept.wide;
-    few = kept.few;
+    bounded = kept.bounded;
     refines = kept.refines;
     each = each-fits;
     gathers =
@@ -222,7 +222,7 @@ module _ (about : About) (s : State (Unit {0}) View) (kept : Kept about s) (seat
         | inr another ↦ has-out out number rest known.1 (ap (λ (b : Bool). b || has_number number rest) (sym another) ∙ has)
       ]
 
--- nothing is owed where no place is registered in the queue
+-- every answer is shown where no place is registered in the queue
 settled-all : (about : About) (s : State (Unit {0}) View) (words : List ℕ) (views : List View) (kept : Kept about s) → s.words ≡ words
     → ((number : ℕ) → has_number number views ≡ true → is_slot (kept.standing number).registration ≡ false)
     → ((number : ℕ) → number < about.places → has_number number views ≡ true) → WordsAreQuiescent (needs_of about.rules) (row_of about.places words) kept.last

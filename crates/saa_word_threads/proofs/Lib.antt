@@ -1,6 +1,6 @@
 pub mod CellLemmas
 pub mod Growing
-pub mod Paying
+pub mod Unshown
 pub mod Gathering
 pub mod Beginning
 pub mod Moving

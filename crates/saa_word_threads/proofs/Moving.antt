@@ -15,7 +15,7 @@ use Rattle.saa_word_steps.specs.declared.place.Next.TheVariants.{Going}
 use Rattle.saa_word_steps.specs.declared.place.Place.{Place}
 use Rattle.saa_word_steps.specs.declared.place.Stage.{Stage}
 use Rattle.saa_word_steps.specs.Needs.{AreNeeds, Needs, needs_of}
-use Rattle.saa_word_steps.specs.AbstractState.{AbstractState, IsRun, OwesNothing, opening}
+use Rattle.saa_word_steps.specs.AbstractState.{AbstractState, IsRun, HasShownAll, opening}
 use Rattle.saa_word_steps.specs.Steps.{next_of, operation_of, word_at, written_by}
 use Rattle.saa_word_proofs.specs.History.{BeginsWith, has_part, named, never_waits, of_place, part_of, seen_by}
 use Rattle.saa_word_proofs.specs.Refinement.{IsVisiting, Invariant, joins_line}
@@ -34,12 +34,12 @@ use Rattle.saa_word_threads.specs.declared.table.View.{View}
 use Rattle.saa_word_threads.specs.Kept.{AreGathered, BeginsWithEach, Fits, FitsAs, IsFree, Kept, departed, is_unnumbered}
 use Rattle.saa_word_threads.specs.Cells.{cell_of, row_of}
 use Rattle.saa_word_steps.specs.declared.rules.Rules.{Rules}
-use Rattle.saa_word_threads.specs.Told.{Begins, Extends, IsLegal, IsNext, IsLookOnly, Moves, is_showing, prepares}
+use Rattle.saa_word_threads.specs.Moves.{Begins, Extends, IsLegal, IsNext, IsLookOnly, Moves, is_showing, prepares}
 use Rattle.saa_word_threads.proofs.CellLemmas.{cell-inside, cells-apart}
 use Rattle.saa_word_threads.proofs.Beginning.{begins-refines, updated-twice}
 use Rattle.saa_word_threads.proofs.Gathering.{found-within, gathered-stay, place-fits, spent-apart}
 use Rattle.saa_word_threads.proofs.Growing.{has-append, has-other, never-append, never-same, part-append, part-none, part-own, run-append, seen-apart, seen-on, seen-part, visitor-names}
-use Rattle.saa_word_threads.proofs.Paying.{owes-nothing, seen-legal}
+use Rattle.saa_word_threads.proofs.Unshown.{has-shown-all, seen-legal}
 
 -- Lists
 
@@ -77,13 +77,13 @@ pub record Stepped (needs : Needs) (places : ℕ) (row : ℕ → ℕ) (standing 
       (updated standing me (place_after place (next_of needs me place place.stage (row (word_at (operation_of needs places me place.stage))))))
       last
 
-module _ (needs : Needs) (lawful : AreNeeds needs) (wide : needs.top < 2 ^ count_bits) (places : ℕ) (few : places < 65536) (me : ℕ) where
+module _ (needs : Needs) (lawful : AreNeeds needs) (wide : needs.top < 2 ^ count_bits) (places : ℕ) (bounded : places < 65536) (me : ℕ) where
   stepped : (row : ℕ → ℕ) (standing : ℕ → Place) (state : AbstractState) → Invariant needs places row standing state
       → Stepped needs places row standing state me (standing me)
   stepped row standing state s =
       let made : StepRefines needs places row standing state me (standing me).stage =
-      step-anyone needs lawful wide places row standing state me few s (standing me).stage refl in
-      record { events = made.events; last = made.last; run = made.run; names = made.names; inside = made.inside; refines = made.stands }
+      step-anyone needs lawful wide places row standing state me bounded s (standing me).stage refl in
+      record { events = made.events; last = made.last; run = made.run; names = made.names; inside = made.inside; refines = made.invariant }
 
   pub stepped-at : (row : ℕ → ℕ) (standing : ℕ → Place) (state : AbstractState) (place : Place) → standing me ≡ place
       → Invariant needs places row standing state → Stepped needs places row standing state me place
@@ -186,7 +186,7 @@ unchanged about s kept at number seat v same is =
 
 -- The step
 
-module _ (about : About) (few : about.places < 65536) (wide : (needs_of about.rules).top < 2 ^ count_bits) where
+module _ (about : About) (bounded : about.places < 65536) (wide : (needs_of about.rules).top < 2 ^ count_bits) where
   module _ (s : State (Unit {0}) View) (kept : Kept about s) (seat : ℕ) (v : View) (at : get_elem? s.views seat ≡ some v)
       (place : Place) (acts : v.role ≡ Acting) (here : (v.number < about.places) ⊎ IsVisiting place.stage)
       (begins : Begins (needs_of about.rules) v.position place) where
@@ -200,7 +200,7 @@ module _ (about : About) (few : about.places < 65536) (wide : (needs_of about.ru
 
     pub made : Stepped (needs_of about.rules) about.places (row_of about.places s.words) (updated kept.standing v.number place) kept.last v.number place
     made =
-        stepped-at (needs_of about.rules) (rules-lawful about.rules) wide about.places few v.number (row_of about.places s.words)
+        stepped-at (needs_of about.rules) (rules-lawful about.rules) wide about.places bounded v.number (row_of about.places s.words)
         (updated kept.standing v.number place) kept.last place (updated-at kept.standing v.number place) begun
 
     abbrev operation : Operation
@@ -303,7 +303,7 @@ module _ (about : About) (few : about.places < 65536) (wide : (needs_of about.ru
     visitor-never beyond =
         never-same made.events (named_at (needs_of about.rules) place.stage found) made.names
         (visitor-names (needs_of about.rules) place.stage found
-        (visiting-at (needs_of about.rules) (rules-lawful about.rules) wide about.places few v.number (row_of about.places s.words)
+        (visiting-at (needs_of about.rules) (rules-lawful about.rules) wide about.places bounded v.number (row_of about.places s.words)
         (updated kept.standing v.number place) kept.last place (updated-at kept.standing v.number place) begun beyond))
 
     visits-after : (number : ℕ) → about.places ≤ number → never_waits (part_of number (kept.history ++ of_place v.number made.events)) ≡ true
@@ -328,7 +328,7 @@ module _ (about : About) (few : about.places < 65536) (wide : (needs_of about.ru
       run =
           run-append (needs_of about.rules) (opening about.withheld) kept.last made.last kept.history (of_place v.number made.events) kept.run made.run;
       wide = length-set s.words (cell_of about.places (word_at operation)) (written_by operation found) ∙ kept.wide;
-      few = kept.few;
+      bounded = kept.bounded;
       refines = refined;
       each = λ other w is. each-after other w (at_set s.views seat other view w is);
       gathers = λ other w is has. gathers-after other w (at_set s.views seat other view w is) has;
@@ -338,20 +338,20 @@ module _ (about : About) (few : about.places < 65536) (wide : (needs_of about.ru
     }
 
     seen : (legal : IsLegal (needs_of about.rules) about.withheld (seen_by v.number (kept.history ++ of_place v.number made.events)))
-        × (OwesNothing v.number made.last → OwesNothing v.number legal.0)
+        × (HasShownAll v.number made.last → HasShownAll v.number legal.0)
     seen =
         seen-legal (needs_of about.rules) about.withheld v.number (kept.history ++ of_place v.number made.events) made.last
         (run-append (needs_of about.rules) (opening about.withheld) kept.last made.last kept.history (of_place v.number made.events) kept.run made.run)
 
-    told-after : Moves (needs_of about.rules) about.withheld about.places place (next_of (needs_of about.rules) v.number place place.stage found) found v view
-    told-after = record {
+    moved-after : Moves (needs_of about.rules) about.withheld about.places place (next_of (needs_of about.rules) v.number place place.stage found) found v view
+    moved-after = record {
       position = refl;
       events = made.events;
       names = made.names;
       extends = moved-extends kept.history kept.standing about.places kept.dealt seat v made.events behind acts fits;
       legal = seen.0;
       shown = λ never. seen.1
-          (owes-nothing (needs_of about.rules) about.places (row_of about.places after.words) standing made.last refined v.number
+          (has-shown-all (needs_of about.rules) about.places (row_of about.places after.words) standing made.last refined v.number
           (ap (λ (p : Place). is_showing p.stage) (updated-at kept.standing v.number behind) ∙ never));
       own =
           seen-part v.number (kept.history ++ of_place v.number made.events)
@@ -359,10 +359,10 @@ module _ (about : About) (few : about.places < 65536) (wide : (needs_of about.ru
           ∙ ap (λ (l : List Event). part_of v.number kept.history ++ l) (part-own v.number made.events)
           ∙ sym (ap (λ (l : List Event). l ++ made.events) fits.3);
       ready =
-          ready-at (needs_of about.rules) (rules-lawful about.rules) wide about.places few v.number (row_of about.places after.words) standing made.last
+          ready-at (needs_of about.rules) (rules-lawful about.rules) wide about.places bounded v.number (row_of about.places after.words) standing made.last
           behind (updated-at kept.standing v.number behind) refined;
       visits =
-          visiting-at (needs_of about.rules) (rules-lawful about.rules) wide about.places few v.number (row_of about.places after.words) standing made.last
+          visiting-at (needs_of about.rules) (rules-lawful about.rules) wide about.places bounded v.number (row_of about.places after.words) standing made.last
           behind (updated-at kept.standing v.number behind) refined;
     }
 
@@ -377,7 +377,7 @@ module _ (about : About) (few : about.places < 65536) (wide : (needs_of about.ru
     keeps,
     tt,
     kept-after s kept id me.0 at place acts here begins,
-    (told-after s kept id me.0 at place acts here begins, refl),
+    (moved-after s kept id me.0 at place acts here begins, refl),
   )
 
   -- The same of a look: where the place would go on to join, nothing has happened, if then its operation writes what it found
@@ -404,7 +404,7 @@ module _ (about : About) (few : about.places < 65536) (wide : (needs_of about.ru
           keeps,
           tt,
           kept-after s kept id me.0 at place acts here begins,
-          (rw goes (told-after s kept id me.0 at place acts here begins), refl),
+          (rw goes (moved-after s kept id me.0 at place acts here begins), refl),
         )
       ]
 
@@ -414,7 +414,7 @@ pub allowed : (about : About) (rules : Rules) (places : ℕ) (picked : About) (p
     → IsNext (needs_of rules) places number place operation me.0
     → Allows (Kept about) slots id me (cell_of places (word_at operation)) (written_by operation)
     (λ found next. Moves (needs_of picked.rules) picked.withheld picked.places place (next_of (needs_of picked.rules) number place place.stage found) found me.0 next.0 × (next.1 ≡ me.1))
-allowed about rules places picked place number slots id me operation rules_are places_are few wide picks is =
+allowed about rules places picked place number slots id me operation rules_are places_are bounded wide picks is =
     subst (λ (n : ℕ). Allows (Kept about) slots id me (cell_of n (word_at operation)) (written_by operation)
     (λ found next. Moves (needs_of picked.rules) picked.withheld picked.places place (next_of (needs_of picked.rules) number place place.stage found) found me.0 next.0 × (next.1 ≡ me.1))) places_are
     (subst (λ (a : About). Allows (Kept about) slots id me (cell_of about.places (word_at operation)) (written_by operation)
@@ -424,7 +424,7 @@ allowed about rules places picked place number slots id me operation rules_are p
     (subst (λ (n : ℕ). Allows (Kept about) slots id me
     (cell_of about.places (word_at (operation_of (needs_of about.rules) about.places n place.stage))) (written_by (operation_of (needs_of about.rules) about.places n place.stage))
     (λ found next. Moves (needs_of about.rules) about.withheld about.places place (next_of (needs_of about.rules) n place place.stage found) found me.0 next.0 × (next.1 ≡ me.1))) is.number
-    (moves about (subst (λ n. n < 65536) (sym places_are) few) (subst (λ (r : Rules). (needs_of r).top < 2 ^ count_bits) (sym rules_are) wide) slots id me place
+    (moves about (subst (λ n. n < 65536) (sym places_are) bounded) (subst (λ (r : Rules). (needs_of r).top < 2 ^ count_bits) (sym rules_are) wide) slots id me place
     is.role here (subst (λ (r : Rules). Begins (needs_of r) me.0.position place) (sym rules_are) is.begins)))))
   where
     here : (me.0.number < about.places) ⊎ IsVisiting place.stage
@@ -446,7 +446,7 @@ pub allowed-look : (about : About) (rules : Rules) (places : ℕ) (picked : Abou
     → ((found : ℕ) → prepares (next_of (needs_of rules) number place place.stage found) ≡ true → written_by made found ≡ found)
     → Allows (Kept about) slots id me (cell_of places (word_at made)) (written_by made)
     (λ found next. IsLookOnly (needs_of picked.rules) picked.withheld picked.places picked_number picked_place found me.0 next.0 × (next.1 ≡ me.1))
-allowed-look about rules places picked picked_place place picked_number number slots id me made rules_are places_are few wide picks is same =
+allowed-look about rules places picked picked_place place picked_number number slots id me made rules_are places_are bounded wide picks is same =
     subst (λ (n : ℕ). Allows (Kept about) slots id me (cell_of n (word_at made)) (written_by made)
     (λ found next. IsLookOnly (needs_of picked.rules) picked.withheld picked.places picked_number picked_place found me.0 next.0 × (next.1 ≡ me.1))) places_are
     (subst (λ (a : About). Allows (Kept about) slots id me (cell_of about.places (word_at made)) (written_by made)
@@ -460,7 +460,7 @@ allowed-look about rules places picked picked_place place picked_number number s
     (subst (λ (n : ℕ). Allows (Kept about) slots id me
     (cell_of about.places (word_at (operation_of (needs_of about.rules) about.places n place.stage))) (written_by (operation_of (needs_of about.rules) about.places n place.stage))
     (λ found next. IsLookOnly (needs_of about.rules) about.withheld about.places n place found me.0 next.0 × (next.1 ≡ me.1))) is.number
-    (seeks about (subst (λ n. n < 65536) (sym places_are) few) (subst (λ (r : Rules). (needs_of r).top < 2 ^ count_bits) (sym rules_are) wide) slots id me place
+    (seeks about (subst (λ n. n < 65536) (sym places_are) bounded) (subst (λ (r : Rules). (needs_of r).top < 2 ^ count_bits) (sym rules_are) wide) slots id me place
     is.role here (subst (λ (r : Rules). Begins (needs_of r) me.0.position place) (sym rules_are) is.begins) same_here))))))
   where
     here : (me.0.number < about.places) ⊎ IsVisiting place.stage

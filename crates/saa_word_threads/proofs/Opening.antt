@@ -75,7 +75,7 @@ module _ (about : About) (wide : (needs_of about.rules).top < 2 ^ count_bits) (c
     standing = λ place. idle_place;
     dealt = 0;
     run = refl;
-    few = omega arith;
+    bounded = omega arith;
     wide =
         ap (λ (l : List ℕ). length l) is ∙ length-set (replicate (cells_of about.places) 0) 0 about.withheld
         ∙ length-replicate (cells_of about.places) 0;
@@ -136,12 +136,12 @@ number-free places dealt seat one room (inl below) same = omega (arith, below, s
 number-free places dealt seat one room (inr is) same = omega (arith, is, same, room)
 
 seat-free : (places dealt seats seat one : ℕ) → dealt ≤ places → seat < seats → IsNumber places dealt seat one → one ≢ places + seats
-seat-free places dealt seats seat one few within (inl below) same = omega (arith, below, same, few)
-seat-free places dealt seats seat one few within (inr is) same = omega (arith, is, same, within)
+seat-free places dealt seats seat one bounded within (inl below) same = omega (arith, below, same, bounded)
+seat-free places dealt seats seat one bounded within (inr is) same = omega (arith, is, same, within)
 
 -- The views with one more behind them, of a number that nobody had: those before it are as they were, but for the dealer's
 module _ (about : About) (s : State (Unit {0}) View) (kept : Kept about s) (views : List View) (dealt number : ℕ) (grows : kept.dealt ≤ dealt)
-    (few : dealt ≤ about.places) (free : IsFree s.views number) (is_number : IsNumber about.places dealt (length s.views) number)
+    (bounded : dealt ≤ about.places) (free : IsFree s.views number) (is_number : IsNumber about.places dealt (length s.views) number)
     (long : length views ≡ length s.views)
     (same : (seat : ℕ) (w : View) → get_elem? views seat ≡ some w → is_unnumbered w.role ≡ false → get_elem? s.views seat ≡ some w)
     (back : (seat : ℕ) (w : View) → get_elem? s.views seat ≡ some w → is_unnumbered w.role ≡ false → get_elem? views seat ≡ some w)
@@ -194,7 +194,7 @@ module _ (about : About) (s : State (Unit {0}) View) (kept : Kept about s) (view
     dealt = dealt;
     run = kept.run;
     wide = kept.wide;
-    few = few;
+    bounded = bounded;
     refines = kept.refines;
     each = λ seat w is. all-fits seat w (found-snoc views (fresh_view number) w seat is);
     gathers = λ seat w is plays. all-gathers seat w (found-snoc views (fresh_view number) w seat is) plays;
@@ -261,9 +261,9 @@ deals about number id v is more =
 module _ (about : About) (s : State (Unit {0}) View) (kept : Kept about s) where
   pub kept-entered : Kept about (record { words = s.words; homes = s.homes; views = s.views ++ fresh_view (about.places + length s.views) ∷ [] })
   kept-entered =
-      one-more about s kept s.views kept.dealt (about.places + length s.views) (omega arith) kept.few
+      one-more about s kept s.views kept.dealt (about.places + length s.views) (omega arith) kept.bounded
       (λ seat w is plays.
-      seat-free about.places kept.dealt (length s.views) seat w.number kept.few (found-within s.views seat w is)
+      seat-free about.places kept.dealt (length s.views) seat w.number kept.bounded (found-within s.views seat w is)
       (numbered kept.history kept.standing about.places kept.dealt seat w w.role plays (kept.each seat w is)))
       (inr refl) refl (λ seat w is plays. is) (λ seat w is plays. is)
       (λ seat w is dealing. kept.each seat w is)
@@ -312,7 +312,7 @@ module _ (about : About) (s : State (Unit {0}) View) (kept : Kept about s) (id :
     dealt = kept.dealt;
     run = kept.run;
     wide = kept.wide;
-    few = kept.few;
+    bounded = kept.bounded;
     refines = kept.refines;
     each = λ seat w is. witnessed-fits seat w (found-snoc s.views (receipt_of v) w seat is);
     gathers = λ seat w is plays.

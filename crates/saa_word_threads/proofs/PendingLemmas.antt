@@ -15,7 +15,7 @@ use Rattle.saa_word_threads.specs.declared.place.Place.{Place}
 use Rattle.saa_word_threads.specs.declared.table.About.{About}
 use Rattle.saa_word_threads.specs.Called.{IsCalled}
 use Rattle.saa_word_threads.specs.Pending.{BeganAt, GoesOn, HasEnded, HasFound, HasLooked, HasMoved, IsAt, IsPending, IsSameSeat, MakesNext, Seat, Takes, about_of, needs, withheld}
-use Rattle.saa_word_threads.specs.Told.{IsLookOnly, MovesOrStays, unless_joining}
+use Rattle.saa_word_threads.specs.Moves.{IsLookOnly, MovesOrStays, unless_joining}
 use Rattle.saa_word_threads.proofs.Calling.{going-called, in-call-first, in-call-stays, look-stays, stays-same}
 
 -- it begins at a place

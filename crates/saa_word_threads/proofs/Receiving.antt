@@ -71,7 +71,7 @@ module _ (about : About) (s : State (Unit {0}) View) (kept : Kept about s) (id o
     dealt = kept.dealt;
     run = kept.run;
     wide = kept.wide;
-    few = kept.few;
+    bounded = kept.bounded;
     refines = kept.refines;
     each = λ seat u is. each-fits seat u (at_set s.views id seat (with_receipt v w) u is);
     gathers = λ seat u is plays.

@@ -32,7 +32,7 @@ use Rattle.saa_word_threads.specs.declared.table.Role.TheVariants.{Acting}
 use Rattle.saa_word_threads.specs.declared.table.View.{View}
 use Rattle.saa_word_threads.specs.Called.{HasEvents, IsCalled, InCall}
 use Rattle.saa_word_threads.specs.Straight.{grants_at, lowers_to, takes_flag}
-use Rattle.saa_word_threads.specs.Told.{IsNext, RestsAfter, Moves}
+use Rattle.saa_word_threads.specs.Moves.{IsNext, RestsAfter, Moves}
 use Rattle.saa_word_threads.specs.Visits.{InVisit, VisitNext}
 use Rattle.saa_word_threads.proofs.Calling.{in-call-begins, in-call-done, in-call-going, in-call-since, in-call-waits}
 use Rattle.saa_word_threads.proofs.Going.{ask-goes, give-goes, same-number}

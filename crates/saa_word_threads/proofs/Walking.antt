@@ -115,7 +115,7 @@ module _ (form : Form) (visit : Visit) (place : Position) (old : Seat) (at : IsV
       let tells : place.back ≡ Tells = ap (λ (p : Position). p.back) m.rested in
       let quiet : record place { stage = Quiet } ≡ idle_place = ap (λ (p : Position). record p { stage = Quiet }) m.rested in
       subst (λ (b : AfterWalk). GoesOnUnderway form (begun_by visit) (finished place b) new → VisitGoesOn form visit place (finished place b) new) (sym tells)
-      (λ told. (
-        subst (λ (r : Registration). HasEvents (needs form) (withheld form) visit.call.value Idle (Says true) r visit.seat.value.me.0 new.me.0) idle told.2.0,
-        told.2.2 ∙ quiet,
+      (λ done. (
+        subst (λ (r : Registration). HasEvents (needs form) (withheld form) visit.call.value Idle (Says true) r visit.seat.value.me.0 new.me.0) idle done.2.0,
+        done.2.2 ∙ quiet,
       )) goes

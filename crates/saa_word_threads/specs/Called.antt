@@ -9,23 +9,23 @@ use Rattle.saa_word_steps.specs.declared.place.Next.TheVariants.{Going, Waits, D
 use Rattle.saa_word_steps.specs.declared.place.Place.{Place}
 use Rattle.saa_word_steps.specs.declared.place.Registration.{Registration}
 use Rattle.saa_word_steps.specs.Needs.{Needs}
-use Rattle.saa_word_steps.specs.AbstractState.{OwesNothing}
+use Rattle.saa_word_steps.specs.AbstractState.{HasShownAll}
 use Rattle.saa_word_proofs.specs.Calls.{IsAnswered, asked_by}
 use Rattle.saa_word_proofs.specs.CallStages.{IsReadyNext, IsUnder}
 use Rattle.saa_word_proofs.specs.Registering.{registration_after_start, registration_after, starting_answer}
 use Rattle.saa_word_proofs.specs.History.{named, part_of}
 use Rattle.saa_word_threads.specs.declared.table.View.{View}
-use Rattle.saa_word_threads.specs.Told.{Begins, Extends, IsLegal, RestsAfter}
+use Rattle.saa_word_threads.specs.Moves.{Begins, Extends, IsLegal, RestsAfter}
 
 -- A call of a place that was registered so has these events, which end in this answer: the place's view grows by them, the answer is the one
 -- that they name (others among them are granted, closed and showed, which no answer names), and what the place is registered as is read off them.
 -- What the place has seen then is a legal history from the opening on, at which so much was taken, and its own events in that are its part. The
--- place owes nothing then: each answer that it granted, in this call or before, it has shown
+-- place has shown then each answer that it granted, in this call or before
 pub record HasEvents (needs : Needs) (withheld : ℕ) (call : WordCall) (was : Registration) (answer : Answer) (now : Registration) (v w : View) : Type 0 where
   pub events : List Event
   pub extends : Extends v events w
   pub legal : IsLegal needs withheld w.seen
-  pub shown : OwesNothing w.number legal.0
+  pub shown : HasShownAll w.number legal.0
   pub own : part_of w.number w.seen ≡ w.part
   pub answers : IsAnswered needs call was (named events) answer
   pub registered : now ≡ registration_after (named events) (asked_by call) (registration_after_start call was)

@@ -43,7 +43,7 @@ has_number number [] = false
 has_number number (v ∷ rest) = (v.number == number) || has_number number rest
 
 -- There is one legal history that leads to these words, and each of these views is of it. Only places wait: the other numbers are those of visitors.
--- Where views of all places are here, nothing is owed at the end: the flag is clear, each answer that was granted is shown, and the queue is settled
+-- Where views of all places are here, nothing is left to do at the end: the flag is clear, each answer that was granted is shown, and the queue is settled
 pub record AreLedTo (about : About) (words : List ℕ) (views : List View) : Type 0 where
   pub history : List (ℕ × Event)
   pub leads : LeadsTo (needs_of about.rules) about.places about.withheld history (row_of about.places words)

@@ -95,7 +95,7 @@ pub record Kept (about : About) (s : State (Unit {0}) View) : Type 0 where
   pub dealt : ℕ
   pub run : IsRun (needs_of about.rules) (opening about.withheld) history last
   pub wide : length s.words ≡ cells_of about.places
-  pub few : dealt ≤ about.places
+  pub bounded : dealt ≤ about.places
   pub refines : Invariant (needs_of about.rules) about.places (row_of about.places s.words) standing last
   pub each : (seat : ℕ) (v : View) → get_elem? s.views seat ≡ some v → Fits history standing about.places dealt seat v
   pub gathers : (seat : ℕ) (v : View) → get_elem? s.views seat ≡ some v → is_unnumbered v.role ≡ false → AreGathered s.views v.gathered

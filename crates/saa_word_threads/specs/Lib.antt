@@ -1,7 +1,7 @@
 pub mod Cells
 pub mod Kept
 pub mod Gathered
-pub mod Told
+pub mod Moves
 pub mod Called
 pub mod Dealt
 pub mod Public

@@ -21,7 +21,7 @@ use Rattle.saa_word_threads.specs.declared.visit.Visit.{Visit}
 use Rattle.saa_word_threads.specs.declared.visitor.Visitor.{Visitor}
 use Rattle.saa_word_threads.specs.Called.{HasEvents, InCall, InCallNext, IsCalled}
 use Rattle.saa_word_threads.specs.Public.{registered, view_of}
-use Rattle.saa_word_threads.specs.Told.{IsLookOnly, IsNext, Moves, RestsAfter, unless_joining}
+use Rattle.saa_word_threads.specs.Moves.{IsLookOnly, IsNext, Moves, RestsAfter, unless_joining}
 use Rattle.saa_word_threads.specs.Visits.{InVisit, VisitNext, view_of as view_of_visitor}
 
 abbrev pub Seat : Type 0

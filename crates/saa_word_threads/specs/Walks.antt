@@ -19,7 +19,7 @@ use Rattle.saa_word_threads.specs.declared.walk.Front.{Front}
 use Rattle.saa_word_threads.specs.declared.walk.Front.TheVariants.{All, Before}
 use Rattle.saa_word_threads.specs.Called.{HasEvents, InCall}
 use Rattle.saa_word_threads.specs.Pending.{Seat, needs, withheld}
-use Rattle.saa_word_threads.specs.Told.{RestsAfter}
+use Rattle.saa_word_threads.specs.Moves.{RestsAfter}
 use Rattle.saa_word_threads.specs.Beginnings.{Beginning}
 
 -- a place at this stage

@@ -27,7 +27,7 @@ pub struct Form {
     ghost key: { (table.shared.key.rules ≡ rules) × (table.shared.key.places ≡ places) },
     ghost slotless: { table.shared.table_id.slots ≡ 0 },
     ghost wide: { (needs_of rules).top < 2 ^ count_bits },
-    ghost few: { places < 65536 },
+    ghost bounded: { places < 65536 },
     ghost parking: { vec_len marks.marks ≡ places },
 }
 

@@ -420,8 +420,8 @@ impl Lock {
         cx: &mut Context<'_>,
     ) -> task::Poll<Result<bool, Error>>
         requires { IsDealtBy self.now place.old }
-        ensures ready { IfReady result (λ told. (answer : Answer) × (told ≡ polled_lock answer) × IsMade TryPoll place.old answer place.new) }
-        ensures waited { IfReady result (λ told. told ≢ Err NotReady) }
+        ensures ready { IfReady result (λ reply. (answer : Answer) × (reply ≡ polled_lock answer) × IsMade TryPoll place.old answer place.new) }
+        ensures waited { IfReady result (λ reply. reply ≢ Err NotReady) }
         ensures pending { OnPending result (IsMade TryPoll place.old (Taken (Err NotReady)) place.new) }
         ensures dealt { IsDealtBy self.now place.new }
         ensures armed { OnPending result (IsArmed cx.new) }
@@ -439,8 +439,8 @@ impl Lock {
         cx: &mut Context<'_>,
     ) -> task::Poll<Result<bool, Error>>
         requires { IsDealtBy self.now place.old }
-        ensures ready { IfReady result (λ told. (answer : Answer) × (told ≡ polled_lock answer) × IsMade TryPoll place.old answer place.new) }
-        ensures waited { IfReady result (λ told. told ≢ Err NotReady) }
+        ensures ready { IfReady result (λ reply. (answer : Answer) × (reply ≡ polled_lock answer) × IsMade TryPoll place.old answer place.new) }
+        ensures waited { IfReady result (λ reply. reply ≢ Err NotReady) }
         ensures pending { OnPending result (IsMade TryPoll place.old (Taken (Err NotReady)) place.new) }
         ensures dealt { IsDealtBy self.now place.new }
         ensures armed { OnPending result (IsArmed cx.new) }

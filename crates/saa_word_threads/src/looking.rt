@@ -10,7 +10,7 @@ ghost use Rattle.std.specs.Prelude.{◌≡◌, ◌==◌, ℕ, false, true};
 ghost use Rattle.saa_word_steps.specs.declared.operation.Operation.TheVariants.{Load, Exchange};
 ghost use Rattle.saa_word_steps.specs.Steps.{next_of, operation_of};
 ghost use Rattle.saa_word_threads.specs.Pending.{GoesOn, HasEnded, HasFound, IsPending, IsSameSeat, about_of, needs};
-ghost use Rattle.saa_word_threads.specs.Told.{prepares, unless_joining};
+ghost use Rattle.saa_word_threads.specs.Moves.{prepares, unless_joining};
 
 use crate::call::Pending;
 use crate::form::Form;

@@ -8,7 +8,7 @@ ghost use Rattle.saa_word_steps.specs.Readings.{is_idle};
 ghost use Rattle.saa_word_proofs.specs.Registering.{is_slot};
 ghost use Rattle.saa_word_threads.specs.declared.table.Role.TheVariants.{Acting};
 ghost use Rattle.saa_word_threads.specs.Cells.{cells_of};
-ghost use Rattle.saa_word_threads.specs.Told.{RestsAfter};
+ghost use Rattle.saa_word_threads.specs.Moves.{RestsAfter};
 
 use crate::straight::LastAsk;
 use crate::table::View;

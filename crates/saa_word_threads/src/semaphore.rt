@@ -278,8 +278,8 @@ impl<const MAX: usize> SemaphoreOf<MAX> {
         cx: &mut Context<'_>,
     ) -> task::Poll<Result<(), Error>>
         requires { IsDealtBy self.now place.old }
-        ensures ready { IfReady result (λ told. (answer : Answer) × (told ≡ polled answer) × IsMade self.now TryPoll place.old answer place.new) }
-        ensures waited { IfReady result (λ told. told ≢ Err NotReady) }
+        ensures ready { IfReady result (λ reply. (answer : Answer) × (reply ≡ polled answer) × IsMade self.now TryPoll place.old answer place.new) }
+        ensures waited { IfReady result (λ reply. reply ≢ Err NotReady) }
         ensures pending { OnPending result (IsMade self.now TryPoll place.old (Taken (Err NotReady)) place.new) }
         ensures dealt { IsDealtBy self.now place.new }
         ensures armed { OnPending result (IsArmed cx.new) }
@@ -297,8 +297,8 @@ impl<const MAX: usize> SemaphoreOf<MAX> {
         cx: &mut Context<'_>,
     ) -> task::Poll<Result<(), Error>>
         requires { IsDealtBy self.now place.old }
-        ensures ready { IfReady result (λ told. (answer : Answer) × (told ≡ polled answer) × IsMade self.now TryPoll place.old answer place.new) }
-        ensures waited { IfReady result (λ told. told ≢ Err NotReady) }
+        ensures ready { IfReady result (λ reply. (answer : Answer) × (reply ≡ polled answer) × IsMade self.now TryPoll place.old answer place.new) }
+        ensures waited { IfReady result (λ reply. reply ≢ Err NotReady) }
         ensures pending { OnPending result (IsMade self.now TryPoll place.old (Taken (Err NotReady)) place.new) }
         ensures dealt { IsDealtBy self.now place.new }
         ensures armed { OnPending result (IsArmed cx.new) }

@@ -1,7 +1,7 @@
 //! The table that places share: what a seat of it knows, and what is always so of its words and seats.
 //!
 //! Held to `specs/Kept.antt`: there is one legal history that leads to the words, and each place knows its part of it. What a step tells
-//! its place is `specs/Told.antt`.
+//! its place is `specs/Moves.antt`.
 
 use atomic_table::{Join, Play, Split, TableRule};
 use saa_word_steps::event::Event;
@@ -87,9 +87,9 @@ pub struct Moved<M> {
 }
 
 impl<M: Mover> Play<(), View> for Moved<M> {
-    ghost use Rattle.saa_word_threads.specs.Told.{told};
+    ghost use Rattle.saa_word_threads.specs.Moves.{moved};
 
-    ghost then = { told M.about M.place M.me };
+    ghost then = { moved M.about M.place M.me };
 }
 
 /// A step of a place that asks: no step at all, and the place is at the stage where it was, if it would have to join for what is found.
@@ -98,7 +98,7 @@ pub struct LookOnly<M> {
 }
 
 impl<M: Mover> Play<(), View> for LookOnly<M> {
-    ghost use Rattle.saa_word_threads.specs.Told.{look_only};
+    ghost use Rattle.saa_word_threads.specs.Moves.{look_only};
 
     ghost then = { look_only M.about M.place M.me };
 }

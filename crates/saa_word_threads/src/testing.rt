@@ -157,7 +157,7 @@ pub fn poll_task_watched<W: Watch>(
     cx: &mut Context<'_>,
 ) -> Poll<Result<bool, Error>>
     requires { IsDealtByLock lock.now place.old }
-    ensures ready { IfReady result (λ told. (answer : Answer) × (told ≡ polled_lock answer) × IsMadeAtLock TryPoll place.old answer place.new) }
+    ensures ready { IfReady result (λ reply. (answer : Answer) × (reply ≡ polled_lock answer) × IsMadeAtLock TryPoll place.old answer place.new) }
     ensures dealt { IsDealtByLock lock.now place.new }
     ensures armed { OnPending result (IsArmed cx.new) }
     ensures kept { Keeps cx.old cx.new }

@@ -92,12 +92,12 @@ impl<'a, R: Wait + Drop, P: Primitive> Counts<'a, R, P> {
 
     /// The same of those that had the mutex at one of these tries.
     pub fn contended(&self) -> (u64, u64, u64) {
-        self.form.mutex.lock(&self.form.rt).contended.told()
+        self.form.mutex.lock(&self.form.rt).contended.counts()
     }
 
     /// How often waiters looked at their parkers, how many spin hints they gave there and how often they yielded: of those that were
     /// answered or parked since.
     pub fn spun(&self) -> (u64, u64, u64) {
-        self.form.mutex.lock(&self.form.rt).spun.told()
+        self.form.mutex.lock(&self.form.rt).spun.counts()
     }
 }

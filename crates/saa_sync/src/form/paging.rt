@@ -31,7 +31,7 @@ pub trait PagerCore: Primitive {
     /// What a poll is told, by the number that the core answered, or by why there is none.
     fn read(polled: Result<u8, Error>) -> Self::Value
         ensures reads { result ≡ reading polled }
-        ensures told { fault result ≡ error_of polled };
+        ensures fault { fault result ≡ error_of polled };
 
     // No answer means an error of a poll.
     ghost answers: { (value : ℕ) → Self.is_answer value → Self.fault (Self.Primitive.value (Ok value)) ≡ None };

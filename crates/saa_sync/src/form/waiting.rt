@@ -92,8 +92,8 @@ impl<R: Wait + Drop, P: Primitive> Waitable for Form<R, P> {
 impl<R: Wait + Clock + Drop, P: Primitive> WaitableUntil for Form<R, P> {
     /// Polls a ticket as sync, and waits for its answer until the deadline.
     fn poll_until(&self, ticket: &mut Ticket, deadline: Deadline) -> Result<u8, Error> {
-        let (mut locked, told) = self.wait_until(ticket, deadline);
-        match told {
+        let (mut locked, reply) = self.wait_until(ticket, deadline);
+        match reply {
             Some(answer) => answer,
             None => locked.core.poll_number(ticket, How::Sync),
         }
@@ -105,8 +105,8 @@ impl<R: Wait + Clock + Drop, P: Primitive> WaitableUntil for Form<R, P> {
     /// under the same mutex. So an answer that comes before the drop is returned, and none can come after it: no grant is lost, and
     /// none is told twice.
     fn finish_until(&self, ticket: &mut Ticket, deadline: Deadline) -> Result<u8, Error> {
-        let (mut locked, told) = self.wait_until(ticket, deadline);
-        let answer = match told {
+        let (mut locked, reply) = self.wait_until(ticket, deadline);
+        let answer = match reply {
             Some(answer) => answer,
             None => locked.poll_or_leave(ticket),
         };

@@ -26,21 +26,21 @@ impl<R: Wait + Clock + Drop> Form<R, GateCore> {
     ///
     /// If time is up, it leaves the queue, and all other waiters wait on. `Full` as there.
     pub fn enter_sync_for(&self, duration: Duration) -> Result<TimedEntry, Full>
-        ensures { IfOk result (λ told. entry_fault told ≡ None) }
+        ensures { IfOk result (λ reply. entry_fault reply ≡ None) }
     {
         self.enter_by(Deadline::after(self.rt(), duration))
     }
 
     /// Passes the gate as [`Self::enter_sync_for`] does, and waits until this instant.
     pub fn enter_sync_until(&self, deadline: Instant) -> Result<TimedEntry, Full>
-        ensures { IfOk result (λ told. entry_fault told ≡ None) }
+        ensures { IfOk result (λ reply. entry_fault reply ≡ None) }
     {
         self.enter_by(Deadline::At(deadline))
     }
 
     // Passes, by this time.
     fn enter_by(&self, deadline: Deadline) -> Result<TimedEntry, Full>
-        ensures { IfOk result (λ told. entry_fault told ≡ None) }
+        ensures { IfOk result (λ reply. entry_fault reply ≡ None) }
     {
         match self.acquire_until((), deadline)? {
             Some(value) => Ok(entry(read_value(value))),

@@ -38,7 +38,7 @@ impl<R: Wait + Clock + Drop, const MAX: usize> Form<R, SemaphoreCoreOf<MAX>> {
         count: usize,
         duration: Duration,
     ) -> Result<Option<bool>, AcquireError>
-        ensures answer { IfOk result (λ told. IfSome told (λ is_granted. IsTrue is_granted ↔ (count ≤ MAX))) }
+        ensures answer { IfOk result (λ reply. IfSome reply (λ is_granted. IsTrue is_granted ↔ (count ≤ MAX))) }
         ensures too_many { MAX < count → result ≡ Ok (Some false) }
     {
         self.acquire_many_by(count, Deadline::after(self.rt(), duration))
@@ -50,7 +50,7 @@ impl<R: Wait + Clock + Drop, const MAX: usize> Form<R, SemaphoreCoreOf<MAX>> {
         count: usize,
         deadline: Instant,
     ) -> Result<Option<bool>, AcquireError>
-        ensures answer { IfOk result (λ told. IfSome told (λ is_granted. IsTrue is_granted ↔ (count ≤ MAX))) }
+        ensures answer { IfOk result (λ reply. IfSome reply (λ is_granted. IsTrue is_granted ↔ (count ≤ MAX))) }
         ensures too_many { MAX < count → result ≡ Ok (Some false) }
     {
         self.acquire_many_by(count, Deadline::At(deadline))
@@ -61,8 +61,8 @@ impl<R: Wait + Clock + Drop, const MAX: usize> Form<R, SemaphoreCoreOf<MAX>> {
         &self,
         duration: Duration,
     ) -> Result<Option<PermitOf<'_, R, MAX>>, AcquireError>
-        ensures semaphore { IfOk result (λ told. IfSome told (λ permit. permit.holder.now ≡ self.now)) }
-        ensures count { IfOk result (λ told. IfSome told (λ permit. permit.count ≡ 1)) }
+        ensures semaphore { IfOk result (λ reply. IfSome reply (λ permit. permit.holder.now ≡ self.now)) }
+        ensures count { IfOk result (λ reply. IfSome reply (λ permit. permit.count ≡ 1)) }
     {
         PermitFrom::acquire_one_until(self, Deadline::after(self.rt(), duration))
     }
@@ -72,8 +72,8 @@ impl<R: Wait + Clock + Drop, const MAX: usize> Form<R, SemaphoreCoreOf<MAX>> {
         &self,
         deadline: Instant,
     ) -> Result<Option<PermitOf<'_, R, MAX>>, AcquireError>
-        ensures semaphore { IfOk result (λ told. IfSome told (λ permit. permit.holder.now ≡ self.now)) }
-        ensures count { IfOk result (λ told. IfSome told (λ permit. permit.count ≡ 1)) }
+        ensures semaphore { IfOk result (λ reply. IfSome reply (λ permit. permit.holder.now ≡ self.now)) }
+        ensures count { IfOk result (λ reply. IfSome reply (λ permit. permit.count ≡ 1)) }
     {
         PermitFrom::acquire_one_until(self, Deadline::At(deadline))
     }
@@ -119,7 +119,7 @@ impl<R: Wait + Clock + Drop, const MAX: usize> Form<R, SemaphoreCoreOf<MAX>> {
         count: usize,
         deadline: Deadline,
     ) -> Result<Option<bool>, AcquireError>
-        ensures answer { IfOk result (λ told. IfSome told (λ is_granted. IsTrue is_granted ↔ (count ≤ MAX))) }
+        ensures answer { IfOk result (λ reply. IfSome reply (λ is_granted. IsTrue is_granted ↔ (count ≤ MAX))) }
         ensures too_many { MAX < count → result ≡ Ok (Some false) }
     {
         if is_too_many::<MAX>(count) {

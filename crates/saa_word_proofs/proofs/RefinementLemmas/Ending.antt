@@ -38,8 +38,8 @@ ended-joins back = grind arith
 pub ended-own : (word : LineWord) (back : AfterWalk) → IsOwn word (end_stage back)
 ended-own word back = grind arith
 
-pub ended-showing : (owed : List (ℕ × ℕ)) (answer_value : ℕ) (back : AfterWalk) → owed ≡ [] → IsShowing owed answer_value (end_stage back)
-ended-showing owed answer_value back none = grind (arith, none)
+pub ended-showing : (unshown : List (ℕ × ℕ)) (answer_value : ℕ) (back : AfterWalk) → unshown ≡ [] → IsShowing unshown answer_value (end_stage back)
+ended-showing unshown answer_value back none = grind (arith, none)
 
 pub ended-holder : (back : AfterWalk) → is_holder (end_stage back) ≡ false
 ended-holder back = grind arith

@@ -1,8 +1,8 @@
 -- What a step leaves as it was: of the words, of what the other places remember, and of what the holder of the flag knows.
-use Rattle.std.proofs.Common.{◌≡◌, ℕ, ◌+◌, ◌<◌, ◌≤◌, pred, true, false, List, [], ◌++◌, ◌==◌, sym, ap, subst, ◌∙◌, arith, append_assoc, append-nil}
+use Rattle.std.proofs.Common.{◌≡◌, ℕ, ◌+◌, ◌<◌, ◌≤◌, pred, true, false, List, [], ◌++◌, ◌==◌, sym, ap, ◌∙◌, arith, append_assoc, append-nil}
 use Rattle.std.proofs.lemmas.Bool.Decides.{nat_tests}
 use Rattle.saa_core_spec.specs.Object.{times}
-use Rattle.saa_core_spec.proofs.Counts.{number_same, same_number, times-append}
+use Rattle.saa_core_spec.proofs.Counts.{times-append}
 use Rattle.saa_core_words.specs.declared.word.Word.{Word}
 use Rattle.saa_core_words.specs.declared.line_word.LineWord.{LineWord}
 use Rattle.saa_word_steps.specs.declared.place.Place.{Place}
@@ -12,7 +12,7 @@ use Rattle.saa_word_steps.specs.declared.place.Stage.TheVariants.{BackLoad, Back
 use Rattle.saa_word_steps.specs.Needs.{Needs}
 use Rattle.saa_word_steps.specs.AbstractState.{is_empty, is_in}
 use Rattle.saa_word_steps.specs.Steps.{IsRanged}
-use Rattle.saa_word_proofs.specs.Refinement.{newest, oldest, is_holder, gives_up, IsLocallyTrue, IsOwn, IsPassed, IsShowing, Work, IsHolding, AreStages, IsAhead, IsAt, IsBack}
+use Rattle.saa_word_proofs.specs.Refinement.{newest, oldest, is_holder, gives_up, IsLocallyTrue, IsOwn, IsShowing, Work, IsHolding, AreStages, IsAhead, IsAt, IsBack}
 use Rattle.saa_word_proofs.specs.Rows.{updated}
 use Rattle.saa_word_proofs.proofs.RefinementLemmas.Lists.{each-updated, in-append, newest-in, newest-some, ahead-frame}
 
@@ -30,27 +30,20 @@ whole-work held line seen tail counted = record {
 -- a place behind the front, or in it, is in the line
 pub work-behind : (held : ℕ) (line : List (ℕ × ℕ)) (seen : Word) (work : Work held line seen) (place : ℕ)
     → 0 < times place work.behind → 0 < times place line
-work-behind held line seen work place there =
-    rw work.parts (omega (arith, there, times-append place work.front (work.behind ++ work.joined), times-append place work.behind work.joined))
+work-behind held line seen work place there = rw work.parts (omega (arith, there, times-append))
 
 pub work-front : (held : ℕ) (line : List (ℕ × ℕ)) (seen : Word) (work : Work held line seen) (place : ℕ)
     → 0 < times place work.front → 0 < times place line
-work-front held line seen work place there =
-    rw work.parts (omega (arith, there, times-append place work.front (work.behind ++ work.joined)))
+work-front held line seen work place there = rw work.parts (omega (arith, there, times-append))
 
 -- the newest of a front stands in it, and the oldest of those behind it among them
 pub newest-stands : (line : List (ℕ × ℕ)) (link : ℕ) → is_empty line ≡ false → link ≡ newest 0 line → (0 < times (pred link) line) × (link ≡ pred link + 1)
 newest-stands line link some is =
-    let there : 0 < link = omega (arith, is, newest-some 0 line some) in
-    let link_is : link ≡ pred link + 1 = omega (arith, there) in
+    let link_is : link ≡ pred link + 1 = omega (arith, is, newest-some 0 line some) in
     (newest-in 0 (pred link) line some (sym is ∙ link_is), link_is)
 
 pub oldest-stands : (line : List (ℕ × ℕ)) (link : ℕ) → is_empty line ≡ false → link ≡ oldest line → (0 < times (pred link) line) × (link ≡ pred link + 1)
 oldest-stands line link some is = (grind (arith, nat_tests, some, is), grind (arith, nat_tests, some, is))
-
--- a holder that passed itself by has done so where others have joined
-passed-more : (me : ℕ) (behind joined more : List (ℕ × ℕ)) → is_in me more ≡ false → IsPassed me behind joined → IsPassed me behind (joined ++ more)
-passed-more me behind joined more none passed = (passed.0, rw (in-append me joined more, passed.1) none)
 
 -- Less is held, more have joined, and the line words of those in line are as they were
 module _ (words new : ℕ → LineWord) (held now : ℕ) (line after more : List (ℕ × ℕ)) (less : now ≤ held) (grown : after ≡ line ++ more)
@@ -60,9 +53,7 @@ module _ (words new : ℕ → LineWord) (held now : ℕ) (line after more : List
     front = work.front;
     behind = work.behind;
     joined = work.joined ++ more;
-    parts = grown ∙ ap (λ (l : List (ℕ × ℕ)). l ++ more) work.parts
-        ∙ append_assoc work.front (work.behind ++ work.joined) more
-        ∙ ap (λ (l : List (ℕ × ℕ)). work.front ++ l) (append_assoc work.behind work.joined more);
+    parts = rw (grown, work.parts) (simp append_assoc);
     tail = work.tail;
     count = omega (arith, less, work.count);
   }
@@ -101,14 +92,14 @@ module _ (words new : ℕ → LineWord) (held now : ℕ) (line after more : List
     framed seen h.0,
     h.1,
     (h.2.0, h.2.1, h.2.2, ahead seen h.0 h.2.3),
-    passed-more me h.0.behind h.0.joined more none h.3,
+    (h.3.0, rw (in-append me h.0.joined more, h.3.1) none),
     λ some. h.4 some ∙ first seen h.0 newer (h.2.2, some, h.2.3),
   )
   holding-frame needs me cut (LookStore seen current newer word) none h = (
     framed seen h.0,
     h.1,
     (h.2.0, h.2.1, h.2.2, ahead seen h.0 h.2.3),
-    passed-more me h.0.behind h.0.joined more none h.3,
+    (h.3.0, rw (in-append me h.0.joined more, h.3.1) none),
     h.4 ∙ last seen h.0 current newer h.2,
     h.5,
   )
@@ -119,8 +110,8 @@ module _ (words new : ℕ → LineWord) (held now : ℕ) (line after more : List
 
 -- What is so of each place, where one moved and the others remember what they did
 pub stages-next : (needs : Needs) (words new : ℕ → LineWord) (standing : ℕ → Place) (held now : ℕ) (line after cut off : List (ℕ × ℕ))
-    (holder next : ℕ) (owed owing : ℕ → List (ℕ × ℕ)) (answer_value gives : ℕ → ℕ) (me : ℕ) (place : Place)
-    → AreStages needs words standing held line cut holder owed answer_value
+    (holder next : ℕ) (unshown owing : ℕ → List (ℕ × ℕ)) (answer_value gives : ℕ → ℕ) (me : ℕ) (place : Place)
+    → AreStages needs words standing held line cut holder unshown answer_value
     → IsRanged needs place.stage → IsLocallyTrue needs place.registration place.back place.stage
     → (gives_up place.back place.stage ≡ true → is_in me after ≡ false)
     → IsOwn (new me) place.stage → IsShowing (owing me) (gives me) place.stage
@@ -128,12 +119,12 @@ pub stages-next : (needs : Needs) (words new : ℕ → LineWord) (standing : ℕ
     → (next ≡ me + 1 → IsHolding needs new me now after off place.stage)
     → ((other : ℕ) → (other ≡ me → ⊥) → is_in other line ≡ false → is_in other after ≡ false)
     → ((other : ℕ) → (other ≡ me → ⊥) → IsOwn (new other) (standing other).stage)
-    → ((other : ℕ) → (other ≡ me → ⊥) → owing other ≡ owed other)
+    → ((other : ℕ) → (other ≡ me → ⊥) → owing other ≡ unshown other)
     → ((other : ℕ) → (other ≡ me → ⊥) → gives other ≡ answer_value other)
     → ((other : ℕ) → (other ≡ me → ⊥) → (holder == other + 1) ≡ (next == other + 1))
     → ((other : ℕ) → (other ≡ me → ⊥) → holder ≡ other + 1 → IsHolding needs new other now after off (standing other).stage)
     → AreStages needs new (updated standing me place) now after off next owing gives
-stages-next needs words new standing held now line after cut off holder next owed owing answer_value gives me place was ranged alone apart own showing one holding
+stages-next needs words new standing held now line after cut off holder next unshown owing answer_value gives me place was ranged alone apart own showing one holding
     out owns shows values ones holds = record {
       ranged = each-updated (λ (n : ℕ) (p : Place). IsRanged needs p.stage) standing me place ranged (λ other differs. was.ranged other);
       alone = each-updated (λ (n : ℕ) (p : Place). IsLocallyTrue needs p.registration p.back p.stage) standing me place alone (λ other differs. was.alone other);
@@ -141,11 +132,8 @@ stages-next needs words new standing held now line after cut off holder next owe
           (λ other differs gives. out other differs (was.apart other gives));
       own = each-updated (λ (n : ℕ) (p : Place). IsOwn (new n) p.stage) standing me place own owns;
       showing = each-updated (λ (n : ℕ) (p : Place). IsShowing (owing n) (gives n) p.stage) standing me place showing
-          (λ other differs.
-          subst (λ (n : ℕ). IsShowing (owing other) n (standing other).stage) (sym (values other differs))
-          (subst (λ (l : List (ℕ × ℕ)). IsShowing l (answer_value other) (standing other).stage) (sym (shows other differs)) (was.showing other)));
+          (λ other differs. rw (values other differs, shows other differs) (was.showing other));
       one = each-updated (λ (n : ℕ) (p : Place). is_holder p.stage ≡ (next == n + 1)) standing me place one (λ other differs. was.one other ∙ ones other differs);
       holding = each-updated (λ (n : ℕ) (p : Place). next ≡ n + 1 → IsHolding needs new n now after off p.stage) standing me place holding
-          (λ other differs is. holds other differs
-          (let test : next == other + 1 ≡ true = ap (λ (n : ℕ). n == other + 1) is ∙ number_same (other + 1) in same_number holder (other + 1) (ones other differs ∙ test)));
+          (λ other differs is. holds other differs (grind (arith, nat_tests, ones other differs, is)));
     }

@@ -6,13 +6,11 @@ use Rattle.saa_core_words.specs.declared.line_word.LineWord.{LineWord}
 use Rattle.saa_core_words.specs.Words.{count_bits, word_number}
 use Rattle.saa_core_words.proofs.Words.{word-read}
 use Rattle.saa_word_steps.specs.declared.place.Place.{Place}
-use Rattle.saa_word_steps.specs.declared.place.AfterShow.TheVariants.{Again}
 use Rattle.saa_word_steps.specs.declared.place.Stage.{Stage}
-use Rattle.saa_word_steps.specs.declared.place.Stage.TheVariants.{BackLoad, BackStore, Forward, CutToClose, CutForRetry, Close, Empty, Retry, ShowLoad, ShowStore, LookLoad, LookStore, Unlink, DropTail}
 use Rattle.saa_word_steps.specs.Needs.{Needs, kept}
 use Rattle.saa_word_steps.specs.AbstractState.{AbstractState, is_empty, IsSettledAt}
 use Rattle.saa_word_steps.specs.Steps.{IsSmall}
-use Rattle.saa_word_proofs.specs.Refinement.{newest, Work, IsHolding, IsMain, Invariant}
+use Rattle.saa_word_proofs.specs.Refinement.{newest, IsHolding, IsMain, Invariant}
 use Rattle.saa_word_proofs.specs.Rows.{line_of}
 use Rattle.saa_word_proofs.proofs.RefinementLemmas.Rows.{word-whole}
 
@@ -24,41 +22,19 @@ pub some-behind : (front behind : List (ℕ × ℕ)) → is_empty behind ≡ fal
 some-behind [] behind some = some
 some-behind (asker ∷ rest) behind some = refl
 
-front-waits : (held : ℕ) (line : List (ℕ × ℕ)) (seen : Word) (work : Work held line seen) → is_empty work.front ≡ false → is_empty line ≡ false
-front-waits held line seen work some = rw work.parts (some-append work.front (work.behind ++ work.joined) some)
-
-behind-waits : (held : ℕ) (line : List (ℕ × ℕ)) (seen : Word) (work : Work held line seen) → is_empty work.behind ≡ false → is_empty line ≡ false
-behind-waits held line seen work some = rw work.parts (some-behind work.front (work.behind ++ work.joined) (some-append work.behind work.joined some))
-
 -- somebody waits wherever the flag is held
 pub holding-some : (needs : Needs) (words : ℕ → LineWord) (me held : ℕ) (line cut : List (ℕ × ℕ)) (stage : Stage)
     → IsHolding needs words me held line cut stage → is_empty line ≡ false
-holding-some needs words me held line cut (BackLoad seen current newer) h = front-waits held line seen h.0 h.2.1
-holding-some needs words me held line cut (BackStore seen current newer word) h = front-waits held line seen h.0 h.2.1
-holding-some needs words me held line cut (Forward seen current count) h = behind-waits held line seen h.0 h.3.1
-holding-some needs words me held line cut (CutToClose seen current count word) h = behind-waits held line seen h.0 h.3.1
-holding-some needs words me held line cut (CutForRetry seen current count word) h = behind-waits held line seen h.0 h.3.1
-holding-some needs words me held line cut (Close seen count top) h = behind-waits held line seen h.0 h.4
-holding-some needs words me held line cut (Empty seen current count word) h = behind-waits held line seen h.0 h.3.1
-holding-some needs words me held line cut (Retry seen count top) h = behind-waits held line seen h.0 h.4
-holding-some needs words me held line cut (ShowLoad current value (Again seen)) h = behind-waits held line seen h.0 h.3
-holding-some needs words me held line cut (ShowStore current next value (Again seen)) h = behind-waits held line seen h.0 h.3
-holding-some needs words me held line cut (LookLoad seen current newer previous) h = front-waits held line seen h.0 h.2.1
-holding-some needs words me held line cut (LookStore seen current newer word) h = front-waits held line seen h.0 h.2.1
-holding-some needs words me held line cut (Unlink seen newer word older) h = behind-waits held line seen h.0 h.3.1
-holding-some needs words me held line cut (DropTail seen older) h =
-    front-waits held line seen h.0 (rw h.2.2 (some-behind h.2.0 ((me, h.2.1) ∷ []) refl))
-holding-some needs words me held line cut _ h = absurd h
+holding-some needs words me held line cut stage h = grind (arith, h, some-append, some-behind)
 
 -- where nobody waits nobody holds the flag
 pub nobody-holds : (needs : Needs) (places : ℕ) (row : ℕ → ℕ) (standing : ℕ → Place) (state : AbstractState) (s : Invariant needs places row standing state)
     → is_empty state.line ≡ true → s.holder == 0 ≡ true
 nobody-holds needs places row standing state s none =
-    let some : s.holder == 0 ≡ false → is_empty state.line ≡ false =
-    λ held.
-    let is : s.holder ≡ pred s.holder + 1 = grind (arith, nat_tests, held) in
-    holding-some needs (line_of row) (pred s.holder) state.count state.line s.cut (standing (pred s.holder)).stage (s.stages.holding (pred s.holder) is) in
-    grind (arith, none, some)
+    let at : ℕ = pred s.holder in
+    let some : s.holder ≡ at + 1 → is_empty state.line ≡ false =
+    λ is. holding-some needs (line_of row) at state.count state.line s.cut (standing at).stage (s.stages.holding at is) in
+    grind (arith, nat_tests, none, some)
 
 -- the main word that an exchange has written
 pub main-now : (needs : Needs) (state : AbstractState) (holder : ℕ) (word : Word) → IsSmall word → word.tail < 65536
@@ -78,17 +54,11 @@ main-now needs state holder word small tail_small count tail flag poison barren 
       settled = settled;
     }
 
--- where somebody waits, or holds the flag, nothing is poisoned
-pub calm-some : (needs : Needs) (number : ℕ) (state : AbstractState) (holder : ℕ) → IsMain needs number state holder → is_empty state.line ≡ false → state.poisoned ≡ false
-calm-some needs number state holder main some =
-    let empty : state.poisoned ≡ true → is_empty state.line ≡ true = λ poisoned. ap is_empty (main.barren poisoned).1 in
-    grind (arith, some, empty)
-
+-- where somebody holds the flag nothing is poisoned
 pub calm-held : (needs : Needs) (places : ℕ) (row : ℕ → ℕ) (standing : ℕ → Place) (state : AbstractState) (me : ℕ) (s : Invariant needs places row standing state)
     → s.holder ≡ me + 1 → state.poisoned ≡ false
 calm-held needs places row standing state me s held =
-    calm-some needs (row 0) state s.holder s.main
-    (holding-some needs (line_of row) me state.count state.line s.cut (standing me).stage (s.stages.holding me held))
+    grind (arith, s.main.barren, holding-some needs (line_of row) me state.count state.line s.cut (standing me).stage (s.stages.holding me held))
 
 -- what isn't poisoned isn't barren
 pub never-barren : (needs : Needs) (state : AbstractState) → state.poisoned ≡ false → state.poisoned ≡ true

@@ -1,5 +1,5 @@
 -- The holder of the flag writes the line word of a place that stands in the line: what this leaves as it was.
-use Rattle.std.proofs.Common.{◌≤◌, ◌≡◌, ℕ, ◌+◌, ◌<◌, pred, true, false, List, [], ◌∷◌, ◌++◌, ◌==◌, Some, is_some, refl, sym, ap, subst, ◌∙◌, arith, inl, inr}
+use Rattle.std.proofs.Common.{◌≤◌, ◌≡◌, ℕ, ◌+◌, ◌<◌, pred, true, false, List, [], ◌∷◌, ◌++◌, ◌==◌, is_some, refl, sym, ap, subst, ◌∙◌, arith}
 use Rattle.std.proofs.lemmas.Bool.{cases_Bool}
 use Rattle.std.proofs.lemmas.Bool.Decides.{nat_tests}
 use Rattle.saa_core_spec.specs.Object.{times}
@@ -17,20 +17,16 @@ use Rattle.saa_word_proofs.specs.Rows.{IsBehind, line_of, updated}
 use Rattle.saa_word_proofs.specs.Registering.{is_slot}
 use Rattle.saa_word_proofs.proofs.RefinementLemmas.Lists.{in-some, oldest-empty, behind-rest, newest-append, newest-any, newest-last, empty-nil}
 use Rattle.saa_word_proofs.proofs.RefinementLemmas.Frames.{stages-next, newest-stands, oldest-stands, work-behind}
-use Rattle.saa_word_proofs.proofs.RefinementLemmas.Rows.{line-other, row-other, own-any, seats-next, debts-kept, answers-kept}
+use Rattle.saa_word_proofs.proofs.RefinementLemmas.Rows.{line-other, row-other, own-any, seats-next, grants-kept, answers-kept}
 
 -- a place that holds the flag is its holder, and knows what a holder does
 pub flag-held : (needs : Needs) (places : ℕ) (row : ℕ → ℕ) (standing : ℕ → Place) (state : AbstractState) (me : ℕ) (s : Invariant needs places row standing state)
     → is_holder (standing me).stage ≡ true → s.holder ≡ me + 1
 flag-held needs places row standing state me s holds = same_number s.holder (me + 1) (sym (s.stages.one me) ∙ holds)
 
--- numbers whose test fails are two
-pub apart-by : (one other : ℕ) → one == other ≡ false → one ≡ other → ⊥
-apart-by one other apart is = let same : one == other ≡ true = ap (λ (n : ℕ). n == other) is ∙ number_same other in absurd (cc)
-
 -- A member of the line is a place that is registered in it, is in it once, and no answer is due to it
 pub in-line : (places : ℕ) (standing : ℕ → Place) (state : AbstractState) (place : ℕ) → AreSeats places standing state → 0 < times place state.line
-    → (place < places) × (is_slot (standing place).registration ≡ true) × (times place state.line ≡ 1) × (is_some (state.due place) ≡ false)
+    → (place < places) × (is_slot (standing place).registration ≡ true) × (times place state.line ≡ 1) × (is_some (state.granted place) ≡ false)
 in-line places standing state place seats there =
     let held = seats.held place in
     let slot : is_slot (standing place).registration ≡ true = grind (arith, there, held) in
@@ -65,7 +61,7 @@ pub relinked : (needs : Needs) (places : ℕ) (row : ℕ → ℕ) (standing : �
     → IsLine (line_of (updated row (at + 1) number)) state.line off rest
     → IsRanged needs next → IsLocallyTrue needs (standing me).registration (standing me).back next
     → (gives_up (standing me).back next ≡ true → is_in me state.line ≡ false)
-    → IsOwn (line_of (updated row (at + 1) number) me) next → IsShowing (s.owed me) (s.answer_value me) next
+    → IsOwn (line_of (updated row (at + 1) number) me) next → IsShowing (s.unshown me) (s.answer_value me) next
     → is_holder next ≡ true → IsHolding needs (line_of (updated row (at + 1) number)) me state.count state.line off next
     → Invariant needs places (updated row link number) (updated standing me (record (standing me) { stage = next })) state
 relinked needs places row standing state me s next link at number off rest is free flag there line ranged alone apart own showing holder holding =
@@ -74,39 +70,32 @@ relinked needs places row standing state me s next link at number off rest is fr
       holder = s.holder;
       cut = off;
       uncut = rest;
-      owed = s.owed;
+      unshown = s.unshown;
       answer_value = s.answer_value;
       free = λ nobody. absurd (omega (arith, flag, same_number s.holder 0 nobody));
       main = subst (λ (n : ℕ). IsMain needs n state s.holder) (sym (row-other row (at + 1) number 0 (λ is. omega (arith, is)))) s.main;
       line = line;
       seats = seats-next places standing state state me (record (standing me) { stage = next }) s.seats free refl (λ other. refl);
-      answers = answers-kept places row (at + 1) number state.shown (omega (arith, seat.0)) s.answers;
-      debts = debts-kept (line_of row) (line_of (updated row (at + 1) number)) state.due state.granter s.owed s.answer_value s.debts
-          (λ place other owes. line-other row at number other (not-owed seat.3 place other owes));
+      answers = answers-kept places row (at + 1) number state.answered (omega (arith, seat.0)) s.answers;
+      grants = grants-kept (line_of row) (line_of (updated row (at + 1) number)) state.granted state.granter s.unshown s.answer_value s.grants
+          (λ place other listed. line-other row at number other (λ is.
+          let due = (s.grants.granted_to place other (in-some other (s.unshown place) listed)).1 in grind (arith, seat.3, is, due)));
       stages = stages-next needs (line_of row) (line_of (updated row (at + 1) number)) standing state.count state.count state.line state.line s.cut off
-          s.holder s.holder s.owed s.owed s.answer_value s.answer_value me (record (standing me) { stage = next }) s.stages
+          s.holder s.holder s.unshown s.unshown s.answer_value s.answer_value me (record (standing me) { stage = next }) s.stages
           ranged alone apart own showing (holder ∙ sym (ap (λ (n : ℕ). n == me + 1) flag ∙ number_same (me + 1))) (λ is. holding)
           (λ other differs out. out)
-          (owns seat.1) (λ other differs. refl) (λ other differs. refl) (λ other differs. refl) (λ other differs is. absurd (differs (omega (arith, is, flag))));
+          (λ other apart. grind (
+            arith,
+            nat_tests,
+            seat.1,
+            cases_Bool (other == at),
+            s.stages.own other,
+            line-other row at number other,
+            own-any needs
+                (standing other).registration (standing other).back (standing other).stage (line_of (updated row (at + 1) number) other) (s.stages.alone other),
+          ))
+          (λ other differs. refl) (λ other differs. refl) (λ other differs. refl) (λ other differs is. absurd (differs (omega (arith, is, flag))));
     })
-  where
-    not-owed : is_some (state.due at) ≡ false → (place other : ℕ) → 0 < times other (s.owed place) → other ≡ at → ⊥
-    not-owed none place other owes is =
-        let due : state.due other ≡ Some (s.answer_value place) = (s.debts.due_to place other (in-some other (s.owed place) owes)).1 in
-        let wrong : is_some (state.due at) ≡ true = ap (λ (n : ℕ). is_some (state.due n)) (sym is) ∙ ap is_some due in
-        absurd (cc)
-
-    owns : is_slot (standing at).registration ≡ true → (other : ℕ) → (other ≡ me → ⊥)
-        → IsOwn (line_of (updated row (at + 1) number) other) (standing other).stage
-    owns slot other apart =
-        elim (cases_Bool (other == at)) [
-          | inl same ↦
-              own-any needs (standing other).registration (standing other).back (standing other).stage (line_of (updated row (at + 1) number) other) (s.stages.alone other)
-              (ap (λ (n : ℕ). is_slot (standing n).registration) (same_number other at same) ∙ slot)
-          | inr differs ↦
-              subst (λ (w : LineWord). IsOwn w (standing other).stage) (sym (line-other row at number other (apart-by other at differs)))
-              (s.stages.own other)
-        ]
 
 -- The first waiter behind the front: what its line word says, and which place is behind it
 pub record IsLooked (words : ℕ → LineWord) (held : ℕ) (line : List (ℕ × ℕ)) (seen : Word) (work : Work held line seen) (current : ℕ) : Type 0 where
@@ -120,11 +109,6 @@ pub record IsLooked (words : ℕ → LineWord) (held : ℕ) (line : List (ℕ ×
   pub ahead : IsAhead words rest
   pub last : is_empty rest ≡ true → seen.tail ≡ current
 
--- a waiter that is linked to the next one, and those behind are linked too
-ahead-rest : (words : ℕ → LineWord) (asker : ℕ × ℕ) (rest : List (ℕ × ℕ))
-    → IsAhead words (asker ∷ rest) → (is_empty rest ≡ false → (words asker.0).newer ≡ oldest rest) × IsAhead words rest
-ahead-rest words asker rest ahead = (λ some. grind (arith, ahead, some), grind (arith, ahead))
-
 -- a holder that looks at the first of those behind the front finds it so
 pub looked : (words : ℕ → LineWord) (held : ℕ) (line : List (ℕ × ℕ)) (seen : Word) (work : Work held line seen) (current : ℕ)
     → IsBehind words 0 line → IsAt words work.behind current → IsLooked words held line seen work current
@@ -137,7 +121,7 @@ looked words held line seen work current linked at = by work.behind refl
         let link : current ≡ asker.0 + 1 = at.0 ∙ ap oldest is in
         let place : pred current ≡ asker.0 = omega (arith, link) in
         let there = behind-rest words 0 work.front ((asker ∷ rest) ++ work.joined) (subst (λ l. IsBehind words 0 l) parts linked) in
-        let ahead = ahead-rest words asker rest (subst (λ l. IsAhead words l) is at.2) in
+        let ahead : IsAhead words (asker ∷ rest) = subst (λ l. IsAhead words l) is at.2 in
         record {
           asker = asker;
           rest = rest;
@@ -145,13 +129,9 @@ looked words held line seen work current linked at = by work.behind refl
           link = link;
           request = ap (λ (n : ℕ). (words n).request) place ∙ there.0;
           older = ap (λ (n : ℕ). (words n).older) place ∙ there.1;
-          newer = λ some. ap (λ (n : ℕ). (words n).newer) place ∙ ahead.0 some;
-          ahead = ahead.1;
-          last = λ none.
-              work.tail
-              ∙ ap (λ (l : List (ℕ × ℕ)). newest 0 (work.front ++ l))
-              (is ∙ ap (λ (l : List (ℕ × ℕ)). asker ∷ l) (empty-nil rest none))
-              ∙ newest-last 0 work.front asker ∙ sym link;
+          newer = λ some. ap (λ (n : ℕ). (words n).newer) place ∙ grind (arith, ahead, some);
+          ahead = grind (arith, ahead);
+          last = λ none. grind (arith, work.tail, is, link, empty-nil rest none, newest-last 0 work.front asker);
         }
 
 -- the line words that link a line from which nobody is cut off

@@ -1,6 +1,5 @@
 -- Lines of places as lists: their ends, their members, and what their line words say.
-use Rattle.std.proofs.Common.{◌≡◌, ℕ, ◌+◌, ◌<◌, ◌≤◌, Bool, true, false, ◌||◌, List, [], ◌∷◌, ◌++◌, length, take, drop, ◌==◌, refl, sym, ap, subst, ◌∙◌, arith, inl, inr}
-use Rattle.std.proofs.lemmas.Bool.{cases_Bool}
+use Rattle.std.proofs.Common.{◌≡◌, ℕ, ◌+◌, ◌<◌, ◌≤◌, Bool, true, false, ◌||◌, List, [], ◌∷◌, ◌++◌, length, take, drop, if◌then◌else◌, ◌==◌, refl, sym, ap, subst, ◌∙◌, arith}
 use Rattle.std.proofs.lemmas.Bool.Decides.{nat_tests}
 use Rattle.saa_core_spec.specs.Object.{times}
 use Rattle.saa_core_spec.proofs.Counts.{number_same, same_number, one_if-same}
@@ -19,8 +18,7 @@ all-same f g same = λ i n. same n i
 
 -- an update that writes what stood there changes nothing
 pub updated-same : {A : Type 0} (old : ℕ → A) (at : ℕ) (value : A) → value ≡ old at → updated old at value ≡ old
-updated-same old at value is =
-    all-same (updated old at value) old (λ other. grind (arith, nat_tests, is))
+updated-same old at value is = all-same _ _ (λ other. grind (arith, nat_tests, is))
 
 pub updated-at : {A : Type 0} (old : ℕ → A) (at : ℕ) (value : A) → updated old at value at ≡ value
 updated-at old at value = rw (number_same at) refl
@@ -31,13 +29,11 @@ updated-other old at value other apart = rw apart refl
 -- what holds of each place holds after one of them changed, where it holds of what that became
 pub each-updated : {A : Type 0} (P : ℕ → A → Type 0) (old : ℕ → A) (at : ℕ) (value : A)
     → P at value → ((other : ℕ) → (other ≡ at → ⊥) → P other (old other)) → (other : ℕ) → P other (updated old at value other)
-each-updated P old at value here others other =
-    elim (cases_Bool (other == at)) [
-      | inl same ↦
-          let is : at ≡ other = sym (same_number other at same) in
-          rw same (subst (λ n. P n value) is here)
-      | inr apart ↦ rw apart (others other (λ is. let wrong : other == at ≡ true = ap (λ n. n == at) is ∙ number_same at in absurd (cc)))
-    ]
+each-updated P old at value here others other = by (other == at) refl
+  where
+    by : (test : Bool) → other == at ≡ test → P other (if test then value else old other)
+    by true same = subst (λ n. P n value) (sym (same_number other at same)) here
+    by false apart = others other (λ is. let wrong : other == at ≡ true = ap (λ n. n == at) is ∙ number_same at in absurd (cc))
 
 -- Who stands in a line
 

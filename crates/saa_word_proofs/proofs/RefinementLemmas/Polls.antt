@@ -1,5 +1,5 @@
 -- A step that is answered that it waits finds no answer or the flag set, and writes what stood there.
-use Rattle.std.proofs.Common.{◌≡◌, ℕ, ◌+◌, ◌%◌, ◌<◌, Bool, true, false, not, ◌&&◌, ◌||◌, if◌then◌else◌, ◌==◌, Option, Some, None, is_some, refl, sym, ap, ◌∙◌, arith}
+use Rattle.std.proofs.Common.{◌≡◌, ℕ, ◌+◌, ◌%◌, ◌<◌, Bool, true, false, ◌||◌, ◌==◌, Some, None, is_some, refl, sym, ap, ◌∙◌, arith}
 use Rattle.saa_core_spec.specs.Object.{one_if}
 use Rattle.saa_core_words.specs.declared.word.Word.{Word}
 use Rattle.saa_core_words.specs.Words.{count_bits, word_number, word_of, answer_number, answer_of}
@@ -10,21 +10,19 @@ use Rattle.saa_word_steps.specs.declared.place.PollMode.{PollMode}
 use Rattle.saa_word_steps.specs.declared.place.PollMode.TheVariants.{Awaits, Gives}
 use Rattle.saa_word_steps.specs.declared.place.Stage.{Stage}
 use Rattle.saa_word_steps.specs.declared.place.Stage.TheVariants.{ReleaseExchange, Take, FlagLoad, FlagExchange, PoisonLoad, PoisonExchange}
-use Rattle.saa_word_steps.specs.declared.operation.Operation.TheVariants.{Exchange}
 use Rattle.saa_word_steps.specs.declared.place.Next.{Next}
 use Rattle.saa_word_steps.specs.declared.place.Next.TheVariants.{Waits}
 use Rattle.saa_word_steps.specs.Needs.{Needs}
 use Rattle.saa_word_steps.specs.AbstractState.{AbstractState, is_in}
-use Rattle.saa_word_steps.specs.Steps.{word_at, operation_of, next_of, finished, given, taken_answer, flagging, poisoning, flagged_word}
-use Rattle.saa_word_steps.specs.Readings.{refusing_word}
+use Rattle.saa_word_steps.specs.Steps.{word_at, operation_of, next_of, finished, given, taken_answer}
 use Rattle.saa_word_proofs.specs.Refinement.{Invariant}
-use Rattle.saa_word_proofs.specs.Rows.{IsRefusableAndFlagged, main_of}
+use Rattle.saa_word_proofs.specs.Rows.{main_of}
 use Rattle.saa_word_proofs.specs.Registering.{is_slot}
 use Rattle.saa_word_proofs.specs.StepRefinement.{row_after}
 use Rattle.saa_word_proofs.specs.Blocking.{IsBlockedAt}
 use Rattle.saa_word_proofs.proofs.RefinementLemmas.Lists.{updated-same}
-use Rattle.saa_word_proofs.proofs.RefinementLemmas.PollMode.{answer-again, held-else}
-use Rattle.saa_word_proofs.proofs.RefinementLemmas.Rows.{either, at-stage}
+use Rattle.saa_word_proofs.proofs.RefinementLemmas.Showing.{answer-again, held-else}
+use Rattle.saa_word_proofs.proofs.RefinementLemmas.Rows.{at-stage}
 
 -- Which steps go on or are done
 
@@ -61,49 +59,18 @@ may_wait _ = false
 -- every other step
 pub goes-on : (needs : Needs) (me : ℕ) (place : Place) (stage : Stage) (found : ℕ) → may_wait stage ≡ false → GoesOn (next_of needs me place stage found)
 goes-on needs me place (ReleaseExchange what seen) found other =
-    either GoesOn (found == word_number count_bits seen) _ _
-    (λ same. either GoesOn (not (seen.tail == 0) && not seen.is_flagged) _ _ (λ takes. refl) (λ ends. on-finished place place.back))
-    (λ differs. on-given needs place what (word_of count_bits found))
+    grind (arith, on-finished place place.back, on-given needs place what (word_of count_bits found))
 goes-on needs me place stage found other = grind arith
-
--- The flag that is set
-
--- of two only the other waits
-pub second-waits : (test : Bool) (one other : Next) → GoesOn one → (if test then one else other) ≡ Waits → (test ≡ false) × (other ≡ Waits)
-second-waits true one other goes waits = let wrong : false ≡ true = sym goes ∙ ap says_wait waits in absurd (cc)
-second-waits false one other goes waits = (refl, waits)
-
--- a cancel that waits finds the flag set
-flag-stalls : (place : Place) (seen : Word) → flagging place seen ≡ Waits → seen.is_flagged ≡ true
-flag-stalls place seen waits = grind (arith, waits)
-
--- poison that waits finds one owner and the flag set, and a shut finds the flag set
-poison-stalls : (needs : Needs) (place : Place) (seen : Word) → poisoning needs place seen ≡ Waits → IsRefusableAndFlagged needs seen
-poison-stalls needs place seen waits = (grind (arith, waits), grind (arith, waits), grind (arith, waits))
-
--- an exchange that finds another number writes what stood there
-not-exchanged : (row : ℕ → ℕ) (old new : ℕ) → (row 0 == old) ≡ false → row_after row (Exchange 0 old new) ≡ row
-not-exchanged row old new differs = rw differs (updated-same row 0 (row 0) refl)
-
--- The answer that isn't there
-
--- an answer that is there is read, so a waiter has none
-none-shown : (needs : Needs) (place : Place) (taking : PollMode) (answer : Option ℕ) → ((value : ℕ) → answer ≡ Some value → value < 256)
-    → taken_answer needs place taking (answer_of (answer_number answer % 65536)) ≡ Waits → answer ≡ None
-none-shown needs place taking None small waits = refl
-none-shown needs place taking (Some value) small waits =
-    let read = answer-again (Some value) small in grind (arith, read, waits, on-some needs place taking value)
 
 -- a place that is registered in the line and finds no answer
 takes-none : (needs : Needs) (places : ℕ) (row : ℕ → ℕ) (standing : ℕ → Place) (state : AbstractState) (me : ℕ)
     → Invariant needs places row standing state → (taking : PollMode) → is_slot (standing me).registration ≡ true
     → taken_answer needs (standing me) taking (answer_of (row (places + me + 1) % 65536)) ≡ Waits
-    → ((is_in me state.line || is_some (state.due me)) ≡ true) × (row_after row (operation_of needs places me (Take taking)) ≡ row)
+    → ((is_in me state.line || is_some (state.granted me)) ≡ true) × (row_after row (operation_of needs places me (Take taking)) ≡ row)
 takes-none needs places row standing state me s taking slot waits =
-    let number : row (places + me + 1) ≡ answer_number (state.shown me) = s.answers.words me (s.seats.within me slot) in
-    let none : state.shown me ≡ None =
-    none-shown needs (standing me) taking (state.shown me) (s.answers.small me)
-    (ap (λ (n : ℕ). taken_answer needs (standing me) taking (answer_of (n % 65536))) (sym number) ∙ waits) in
+    let number : row (places + me + 1) ≡ answer_number (state.answered me) = s.answers.words me (s.seats.within me slot) in
+    let read = answer-again (state.answered me) (s.answers.small me) in
+    let none : state.answered me ≡ None = grind (arith, number, read, waits, on-some needs (standing me) taking) in
     let empty : row (places + me + 1) ≡ 0 = number ∙ ap answer_number none in
     (held-else state me (s.seats.held me ∙ ap one_if slot) none, updated-same row (places + me + 1) 0 (sym empty))
 
@@ -118,18 +85,15 @@ only-stalls-anyone needs places row standing state me s (Take (Gives request)) a
     let known = at-stage needs places row standing state me s (Take (Gives request)) at in
     let both = takes-none needs places row standing state me s (Gives request) (ap is_slot known.alone) waits in
     let out : is_in me state.line ≡ false = known.apart refl in
-    (sym (ap (λ (b : Bool). b || is_some (state.due me)) out) ∙ both.0, both.1)
-only-stalls-anyone needs places row standing state me s FlagLoad at waits =
-    (flag-stalls (standing me) (main_of row) waits, updated-same row 0 (row 0) refl)
+    (sym (ap (λ (b : Bool). b || is_some (state.granted me)) out) ∙ both.0, both.1)
+only-stalls-anyone needs places row standing state me s FlagLoad at waits = (grind (arith, waits), updated-same row 0 (row 0) refl)
 only-stalls-anyone needs places row standing state me s (FlagExchange seen) at waits =
-    let both = second-waits (row 0 == word_number count_bits seen) _ _ refl waits in
-    (flag-stalls (standing me) (main_of row) both.1, not-exchanged row (word_number count_bits seen) (word_number count_bits (flagged_word seen)) both.0)
-only-stalls-anyone needs places row standing state me s PoisonLoad at waits =
-    (poison-stalls needs (standing me) (main_of row) waits, updated-same row 0 (row 0) refl)
+    let differs : (row 0 == word_number count_bits seen) ≡ false = grind (arith, waits) in
+    (grind (arith, waits), rw differs (updated-same row 0 (row 0) refl))
+only-stalls-anyone needs places row standing state me s PoisonLoad at waits = (grind (arith, waits), updated-same row 0 (row 0) refl)
 only-stalls-anyone needs places row standing state me s (PoisonExchange seen) at waits =
-    let both = second-waits (row 0 == word_number count_bits seen) _ _
-    (either GoesOn (seen.tail == 0) _ _ (λ alone. on-finished (standing me) (standing me).back) (λ others. refl)) waits in
-    (poison-stalls needs (standing me) (main_of row) both.1, not-exchanged row (word_number count_bits seen) (word_number count_bits (refusing_word needs seen)) both.0)
+    let differs : (row 0 == word_number count_bits seen) ≡ false = grind (arith, waits, on-finished (standing me) (standing me).back) in
+    (grind (arith, waits, differs), rw differs (updated-same row 0 (row 0) refl))
 only-stalls-anyone needs places row standing state me s stage at waits =
     let goes = goes-on needs me (standing me) stage (row (word_at (operation_of needs places me stage))) refl in
     let wrong : false ≡ true = sym goes ∙ ap says_wait waits in

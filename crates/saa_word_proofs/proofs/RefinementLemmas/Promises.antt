@@ -1,5 +1,5 @@
 -- What stands in the words at every moment, and how all begins.
-use Rattle.std.proofs.Common.{◌≡◌, ℕ, ◌+◌, ◌/◌, ◌%◌, ◌^◌, ◌<◌, ◌≤◌, true, false, List, [], ◌∷◌, ◌++◌, ◌==◌, refl, sym, ap, subst, ◌∙◌, arith, append-nil, append_assoc}
+use Rattle.std.proofs.Common.{◌≡◌, ℕ, ◌+◌, ◌/◌, ◌%◌, ◌^◌, ◌<◌, ◌≤◌, true, false, List, [], ◌∷◌, ◌++◌, ◌==◌, refl, sym, subst, ◌∙◌, arith, append-nil, append_assoc}
 use Rattle.std.proofs.lemmas.Bool.Decides.{nat_tests}
 use Rattle.saa_core_spec.proofs.Counts.{one_if-le}
 use Rattle.saa_core_words.specs.declared.line_word.LineWord.{LineWord}
@@ -12,6 +12,7 @@ use Rattle.saa_word_proofs.specs.Rows.{IsBehind, line_of, main_of}
 use Rattle.saa_word_proofs.specs.Registering.{is_slot}
 use Rattle.saa_word_proofs.specs.Promises.{idle_place, opening_row, AreAsking, IsChain, newest_first, WordsShow}
 use Rattle.saa_word_proofs.proofs.RefinementLemmas.Flagging.{not-true}
+use Rattle.saa_word_proofs.proofs.RefinementLemmas.Linking.{linked-all}
 use Rattle.saa_word_proofs.proofs.RefinementLemmas.Poisoning.{poisoned-number}
 
 -- along older neighbours a line is met from its newest on
@@ -20,17 +21,14 @@ pub line-met : (words : ℕ → LineWord) (older : ℕ) (line : List (ℕ × ℕ
 line-met words older [] before behind met = met
 line-met words older (asker ∷ rest) before behind met =
     let further : IsChain words (asker.0 + 1) (asker.0 ∷ before) = (refl, subst (λ (n : ℕ). IsChain words n before) (sym behind.1) met) in
-    subst (λ (l : List ℕ). IsChain words (newest (asker.0 + 1) rest) l) (sym (append_assoc (newest_first rest) (asker.0 ∷ []) before))
-    (line-met words (asker.0 + 1) rest (asker.0 ∷ before) behind.2 further)
+    rw append_assoc (line-met words (asker.0 + 1) rest (asker.0 ∷ before) behind.2 further)
 
--- a waiter behind another asks what its line word says
-pub behind-asks : (words : ℕ → LineWord) (older : ℕ) (line : List (ℕ × ℕ)) → IsBehind words older line → AreAsking words line
-behind-asks words older [] behind = tt
-behind-asks words older (asker ∷ rest) behind = (behind.0, behind-asks words (asker.0 + 1) rest behind.2)
-
-asks-append : (words : ℕ → LineWord) (front rest : List (ℕ × ℕ)) → AreAsking words front → AreAsking words rest → AreAsking words (front ++ rest)
-asks-append words [] rest one other = other
-asks-append words (asker ∷ front) rest one other = (one.0, asks-append words front rest one.1 other)
+-- waiters behind others ask what their line words say
+asking : (words : ℕ → LineWord) (one other : ℕ) (front rest : List (ℕ × ℕ)) → IsBehind words one front → IsBehind words other rest
+    → AreAsking words (front ++ rest)
+asking words one other [] [] fronts rests = tt
+asking words one other [] (asker ∷ rest) fronts rests = (rests.0, asking words one (asker.0 + 1) [] rest fronts rests.2)
+asking words one other (asker ∷ front) rest fronts rests = (fronts.0, asking words (asker.0 + 1) other front rest fronts.2 rests)
 
 -- What stands in the words
 pub says-so : (needs : Needs) (places : ℕ) (row : ℕ → ℕ) (standing : ℕ → Place) (state : AbstractState) → Invariant needs places row standing state
@@ -42,16 +40,10 @@ says-so needs places row standing state s =
       poisoned = s.main.poison;
       whole = s.main.whole;
       exact = λ poisoned. poisoned-number needs places row standing state s poisoned;
-      requests = subst (λ (l : List (ℕ × ℕ)). AreAsking (line_of row) l) (sym s.line.parts)
-          (asks-append (line_of row) s.cut s.uncut (behind-asks (line_of row) 0 s.cut s.line.granted) (behind-asks (line_of row) 0 s.uncut s.line.stays));
-      shown = s.answers.words;
-      line = λ clear.
-          let whole : state.line ≡ s.uncut = s.line.parts ∙ ap (λ (l : List (ℕ × ℕ)). l ++ s.uncut) (s.free (free clear)) in
-          let behind : IsBehind (line_of row) 0 state.line = subst (λ (l : List (ℕ × ℕ)). IsBehind (line_of row) 0 l) (sym whole) s.line.stays in
-          let met : IsChain (line_of row) (newest 0 state.line) (newest_first state.line) =
-          subst (λ (l : List ℕ). IsChain (line_of row) (newest 0 state.line) l) (append-nil (newest_first state.line))
-          (line-met (line_of row) 0 state.line [] behind refl) in
-          subst (λ (n : ℕ). IsChain (line_of row) n (newest_first state.line)) (sym s.main.tail) met;
+      requests = rw s.line.parts (asking (line_of row) 0 0 s.cut s.uncut s.line.granted s.line.stays);
+      answered = s.answers.words;
+      line = λ clear. rw s.main.tail (rw append-nil at
+          (line-met (line_of row) 0 state.line [] (linked-all (line_of row) state.line s.cut s.uncut s.line (s.free (free clear))) refl));
       closed = λ clear. s.main.closed (free clear);
       settled = λ clear. s.main.settled (s.main.closed (free clear));
       bounded = s.main.bounded;
@@ -64,7 +56,7 @@ opens needs wide places count small = record {
   holder = 0;
   cut = [];
   uncut = [];
-  owed = λ place. [];
+  unshown = λ place. [];
   answer_value = λ place. 0;
   free = λ nobody. refl;
   main = record {
@@ -84,9 +76,9 @@ opens needs wide places count small = record {
     words = λ place inside. let test : places + place + 1 == 0 ≡ false = grind (arith, nat_tests) in rw test refl;
     small = λ place value is. absurd (cc);
   };
-  debts = record {
-    due_to = λ place other there. absurd (cc);
-    paid_by = λ other some. absurd (cc);
+  grants = record {
+    granted_to = λ place other there. absurd (cc);
+    unshown_by = λ other some. absurd (cc);
     once = λ place other. omega arith;
     links = λ place. tt;
     small = λ place. omega arith;

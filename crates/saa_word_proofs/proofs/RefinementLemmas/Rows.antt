@@ -15,7 +15,7 @@ use Rattle.saa_word_steps.specs.declared.place.Stage.TheVariants.{Join}
 use Rattle.saa_word_steps.specs.Needs.{Needs, AreNeeds}
 use Rattle.saa_word_steps.specs.AbstractState.{AbstractState, is_in, held_by}
 use Rattle.saa_word_steps.specs.Steps.{IsRanged, IsSmall}
-use Rattle.saa_word_proofs.specs.Refinement.{joins_line, is_holder, gives_up, IsLocallyTrue, IsOwn, IsShowing, IsHolding, AreSeats, IsLine, AreDebts, AreAnswers, Invariant}
+use Rattle.saa_word_proofs.specs.Refinement.{joins_line, is_holder, gives_up, IsLocallyTrue, IsOwn, IsShowing, IsHolding, AreSeats, IsLine, AreGrants, AreAnswers, Invariant}
 use Rattle.saa_word_proofs.specs.Rows.{line_of, updated}
 use Rattle.saa_word_proofs.specs.Registering.{is_slot}
 use Rattle.saa_word_proofs.specs.StepRefinement.{StepRefines}
@@ -45,9 +45,7 @@ tail-small number = omega arith
 
 -- a write to the main word leaves the line words
 pub line-main : (row : ℕ → ℕ) (number : ℕ) → line_of (updated row 0 number) ≡ line_of row
-line-main row number = all-same (line_of (updated row 0 number)) (line_of row) (λ place.
-    let apart : place + 1 == 0 ≡ false = grind (arith, nat_tests) in
-    ap line_word_of (updated-other row 0 number (place + 1) apart))
+line-main row number = all-same _ _ (λ place. ap line_word_of (grind (arith, nat_tests)))
 
 -- a write to a line word leaves the others
 pub line-at : (row : ℕ → ℕ) (at number : ℕ) → line_of (updated row (at + 1) number) at ≡ line_word_of number
@@ -84,34 +82,32 @@ seats-next places standing state last me place was free same held =
     seats-by places standing state last me place was (each-updated (λ (n : ℕ) (p : Place). held_by n last ≡ one_if (is_slot p.registration)) standing me place
     (held me ∙ was.held me ∙ ap one_if (sym same)) (λ other apart. held other ∙ was.held other)) (λ slot. was.within me (sym same ∙ slot)) free
 
--- A row that is written at a word that isn't the main one, where the line words of those in line, or of those who are owed an answer, are as they were
+-- A row that is written at a word that isn't the main one, where the line words of those in line, or of those whose answer isn't shown, are as they were
 pub line-kept : (words new : ℕ → LineWord) (line cut uncut : List (ℕ × ℕ)) → IsLine words line cut uncut
     → ((place : ℕ) → 0 < times place line → new place ≡ words place) → IsLine new line cut uncut
 line-kept words new line cut uncut was same =
-    let both : (place : ℕ) → times place line ≡ times place cut + times place uncut =
-    λ place. ap (λ (l : List (ℕ × ℕ)). times place l) was.parts ∙ times-append place cut uncut in
     record {
       parts = was.parts;
-      granted = behind-same words new 0 cut (λ place there. same place (omega (arith, there, both place))) was.granted;
-      stays = behind-same words new 0 uncut (λ place there. same place (omega (arith, there, both place))) was.stays;
+      granted = behind-same words new 0 cut (λ place there. same place (rw was.parts (omega (arith, there, times-append)))) was.granted;
+      stays = behind-same words new 0 uncut (λ place there. same place (rw was.parts (omega (arith, there, times-append)))) was.stays;
       some = was.some;
     }
 
-pub debts-kept : (words new : ℕ → LineWord) (due : ℕ → Option ℕ) (granter : ℕ → ℕ) (owed : ℕ → List (ℕ × ℕ)) (answer_value : ℕ → ℕ)
-    → AreDebts words due granter owed answer_value → ((place other : ℕ) → 0 < times other (owed place) → new other ≡ words other)
-    → AreDebts new due granter owed answer_value
-debts-kept words new due granter owed answer_value was same = record {
-  due_to = was.due_to;
-  paid_by = was.paid_by;
+pub grants-kept : (words new : ℕ → LineWord) (granted : ℕ → Option ℕ) (granter : ℕ → ℕ) (unshown : ℕ → List (ℕ × ℕ)) (answer_value : ℕ → ℕ)
+    → AreGrants words granted granter unshown answer_value → ((place other : ℕ) → 0 < times other (unshown place) → new other ≡ words other)
+    → AreGrants new granted granter unshown answer_value
+grants-kept words new granted granter unshown answer_value was same = record {
+  granted_to = was.granted_to;
+  unshown_by = was.unshown_by;
   once = was.once;
   small = was.small;
-  links = λ place. behind-same words new 0 (owed place) (same place) (was.links place);
+  links = λ place. behind-same words new 0 (unshown place) (same place) (was.links place);
 }
 
 -- and the answer words, where none of them is written
-pub answers-kept : (places : ℕ) (row : ℕ → ℕ) (at number : ℕ) (shown : ℕ → Option ℕ) → at ≤ places → AreAnswers places row shown
-    → AreAnswers places (updated row at number) shown
-answers-kept places row at number shown below was = record {
+pub answers-kept : (places : ℕ) (row : ℕ → ℕ) (at number : ℕ) (answered : ℕ → Option ℕ) → at ≤ places → AreAnswers places row answered
+    → AreAnswers places (updated row at number) answered
+answers-kept places row at number answered below was = record {
   words = λ place inside. row-other row at number (places + place + 1) (λ is. omega (arith, is, below)) ∙ was.words place inside;
   small = was.small;
 }
@@ -135,7 +131,7 @@ pub record IsAtStage (needs : Needs) (places : ℕ) (row : ℕ → ℕ) (standin
   pub alone : IsLocallyTrue needs (standing me).registration (standing me).back stage
   pub apart : gives_up (standing me).back stage ≡ true → is_in me state.line ≡ false
   pub own : IsOwn (line_of row me) stage
-  pub showing : IsShowing (s.owed me) (s.answer_value me) stage
+  pub showing : IsShowing (s.unshown me) (s.answer_value me) stage
   pub holding : s.holder ≡ me + 1 → IsHolding needs (line_of row) me state.count state.line s.cut stage
   pub mine : is_holder stage ≡ true → s.holder ≡ me + 1
 
@@ -157,7 +153,7 @@ pub moved : (needs : Needs) (places : ℕ) (row : ℕ → ℕ) (standing : ℕ �
     → (places ≤ me → joins_line place.stage ≡ false) → is_slot place.registration ≡ is_slot (standing me).registration
     → IsRanged needs place.stage → IsLocallyTrue needs place.registration place.back place.stage
     → (gives_up place.back place.stage ≡ true → is_in me state.line ≡ false)
-    → IsOwn (line_of row me) place.stage → IsShowing (s.owed me) (s.answer_value me) place.stage
+    → IsOwn (line_of row me) place.stage → IsShowing (s.unshown me) (s.answer_value me) place.stage
     → is_holder place.stage ≡ is_holder (standing me).stage
     → (s.holder ≡ me + 1 → IsHolding needs (line_of row) me state.count state.line s.cut place.stage)
     → Invariant needs places row (updated standing me place) state
@@ -165,15 +161,15 @@ moved needs places row standing state me s place free same ranged alone apart ow
   holder = s.holder;
   cut = s.cut;
   uncut = s.uncut;
-  owed = s.owed;
+  unshown = s.unshown;
   answer_value = s.answer_value;
   free = s.free;
   main = s.main;
   line = s.line;
   seats = seats-next places standing state state me place s.seats free same (λ other. refl);
   answers = s.answers;
-  debts = s.debts;
-  stages = stages-next needs (line_of row) (line_of row) standing state.count state.count state.line state.line s.cut s.cut s.holder s.holder s.owed s.owed
+  grants = s.grants;
+  stages = stages-next needs (line_of row) (line_of row) standing state.count state.count state.line state.line s.cut s.cut s.holder s.holder s.unshown s.unshown
       s.answer_value s.answer_value me place s.stages ranged alone apart own showing (holder ∙ s.stages.one me) holding
       (λ other differs out. out)
       (λ other differs. s.stages.own other) (λ other differs. refl) (λ other differs. refl) (λ other differs. refl) (λ other differs. s.stages.holding other);
@@ -182,5 +178,4 @@ moved needs places row standing state me s place free same ranged alone apart ow
 -- a step that only loads leaves the row
 pub loaded : (needs : Needs) (places : ℕ) (row : ℕ → ℕ) (standing : ℕ → Place) (state : AbstractState) (at : ℕ)
     → Invariant needs places row standing state → Invariant needs places (updated row at (row at)) standing state
-loaded needs places row standing state at s =
-    subst (λ (r : ℕ → ℕ). Invariant needs places r standing state) (sym (updated-same row at (row at) refl)) s
+loaded needs places row standing state at s = rw (updated-same row at (row at) refl) s

@@ -1,5 +1,5 @@
 -- A step that waits is no event.
-use Rattle.std.proofs.Common.{◌≡◌, ℕ, ◌^◌, ◌<◌, true, false, [], refl, sym, ap, subst, ◌∙◌, arith}
+use Rattle.std.proofs.Common.{◌≡◌, ℕ, ◌^◌, ◌<◌, true, false, [], refl, sym, ap, ◌∙◌, arith}
 use Rattle.saa_core_words.specs.Words.{count_bits}
 use Rattle.saa_word_steps.specs.declared.place.Place.{Place}
 use Rattle.saa_word_steps.specs.declared.place.Stage.{Stage}
@@ -10,53 +10,44 @@ use Rattle.saa_word_steps.specs.Needs.{Needs, AreNeeds}
 use Rattle.saa_word_steps.specs.AbstractState.{AbstractState}
 use Rattle.saa_word_steps.specs.Steps.{word_at, operation_of, next_of}
 use Rattle.saa_word_proofs.specs.Refinement.{Invariant}
-use Rattle.saa_word_proofs.specs.Rows.{updated}
-use Rattle.saa_word_proofs.specs.StepRefinement.{StepRefines, named_at, place_after, row_after}
+use Rattle.saa_word_proofs.specs.StepRefinement.{StepRefines, named_at}
 use Rattle.saa_word_proofs.proofs.RefinementLemmas.Lists.{updated-same}
 use Rattle.saa_word_proofs.proofs.RefinementLemmas.Polls.{says_wait, goes-on, only-stalls-anyone}
 use Rattle.saa_word_proofs.proofs.RefinementLemmas.Steps.{step-anyone}
 
--- What it names
-
+-- it names nothing
 unnamed : (needs : Needs) (me : ℕ) (place : Place) (stage : Stage) (found : ℕ) → next_of needs me place stage found ≡ Waits → named_at needs stage found ≡ []
 unnamed needs me place (ReleaseExchange what seen) found waits =
     let wrong : false ≡ true = sym (goes-on needs me place (ReleaseExchange what seen) found refl) ∙ ap says_wait waits in absurd (cc)
 unnamed needs me place stage found waits = grind (arith, waits)
-
--- What it is
-
--- a step as it is known, by how its place goes on: one that waits is no event
-silent-by : (needs : Needs) (places : ℕ) (row : ℕ → ℕ) (standing : ℕ → Place) (state : AbstractState) (me : ℕ)
-    → Invariant needs places row standing state → (made : StepRefines needs places row standing state me (standing me).stage)
-    → (next : Next) → next_of needs me (standing me) (standing me).stage (row (word_at (operation_of needs places me (standing me).stage))) ≡ next
-    → (other : StepRefines needs places row standing state me (standing me).stage) × (next ≡ Waits → other.events ≡ [])
-silent-by needs places row standing state me s made Waits is =
-    let stage : Stage = (standing me).stage in
-    let only = only-stalls-anyone needs places row standing state me s stage refl is in
-    let same : Invariant needs places row (updated standing me (standing me)) state =
-    subst (λ (f : ℕ → Place). Invariant needs places row f state) (sym (updated-same standing me (standing me) refl)) s in (
-      record {
-        events = [];
-        last = state;
-        run = refl;
-        names = sym (unnamed needs me (standing me) stage (row (word_at (operation_of needs places me stage))) is);
-        inside = made.inside;
-        stands =
-            subst (λ (n : Next). Invariant needs places (row_after row (operation_of needs places me stage)) (updated standing me (place_after (standing me) n)) state) (sym is)
-            (subst (λ (r : ℕ → ℕ). Invariant needs places r (updated standing me (standing me)) state) (sym only.1) same);
-      },
-      λ waits. refl,
-    )
-silent-by needs places row standing state me s made _ is = (made, λ waits. absurd (cc))
 
 -- The step of a place or of a visitor
 pub silent-step-anyone : (needs : Needs) → AreNeeds needs → needs.top < 2 ^ count_bits → (places : ℕ) (row : ℕ → ℕ) (standing : ℕ → Place) (state : AbstractState) (me : ℕ)
     → places < 65536 → Invariant needs places row standing state
     → (made : StepRefines needs places row standing state me (standing me).stage)
     × (next_of needs me (standing me) (standing me).stage (row (word_at (operation_of needs places me (standing me).stage))) ≡ Waits → made.events ≡ [])
-silent-step-anyone needs lawful wide places row standing state me room s =
-    silent-by needs places row standing state me s (step-anyone needs lawful wide places row standing state me room s (standing me).stage refl)
-    (next_of needs me (standing me) (standing me).stage (row (word_at (operation_of needs places me (standing me).stage)))) refl
+silent-step-anyone needs lawful wide places row standing state me room s = by _ refl
+  where
+    made : StepRefines needs places row standing state me (standing me).stage
+    made = step-anyone needs lawful wide places row standing state me room s (standing me).stage refl
+
+    -- by how its place goes on: a step that waits is no event
+    by : (next : Next) → next_of needs me (standing me) (standing me).stage (row (word_at (operation_of needs places me (standing me).stage))) ≡ next
+        → (other : StepRefines needs places row standing state me (standing me).stage) × (next ≡ Waits → other.events ≡ [])
+    by Waits is =
+        let only = only-stalls-anyone needs places row standing state me s (standing me).stage refl is in
+        let names = sym (unnamed needs me (standing me) (standing me).stage (row (word_at (operation_of needs places me (standing me).stage))) is) in (
+          record {
+            events = [];
+            last = state;
+            run = refl;
+            names = names;
+            inside = made.inside;
+            invariant = rw (is, only.1, updated-same standing me (standing me) refl) s;
+          },
+          λ waits. refl,
+        )
+    by _ is = (made, λ waits. absurd (cc))
 
 -- the same at a place
 pub silent-step : (needs : Needs) → AreNeeds needs → needs.top < 2 ^ count_bits → (places : ℕ) (row : ℕ → ℕ) (standing : ℕ → Place) (state : AbstractState) (me : ℕ)

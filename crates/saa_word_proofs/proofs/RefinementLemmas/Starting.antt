@@ -1,11 +1,9 @@
 -- A call that starts changes nothing of what stands in the words, and has named nothing.
-use Rattle.std.proofs.Common.{◌^◌, ◌≡◌, ℕ, ◌<◌, ◌≤◌, Bool, true, false, if◌then◌else◌, List, [], ◌==◌, Some, nat_lt, refl, sym, ap, subst, ◌∙◌, arith}
+use Rattle.std.proofs.Common.{◌^◌, ◌≡◌, ℕ, ◌<◌, ◌≤◌, true, false, List, [], ◌==◌, nat_lt, refl, sym, ap, subst, ◌∙◌, arith}
 use Rattle.std.proofs.lemmas.Bool.Decides.{nat_tests}
-use Rattle.saa_core_spec.specs.declared.lock.Mode.{Mode}
-use Rattle.saa_core_spec.specs.declared.lock.Mode.TheVariants.{WaitShared}
 use Rattle.saa_core_words.specs.Words.{count_bits}
 use Rattle.saa_word_steps.specs.declared.call.WordCall.{WordCall}
-use Rattle.saa_word_steps.specs.declared.call.WordCall.TheVariants.{Try, Register, Release, Shut, TryLock, TryShare, RegisterMode, PoisonLock, ClearPoison, TryPoll, Poll, Cancel}
+use Rattle.saa_word_steps.specs.declared.call.WordCall.TheVariants.{Try, Register, Release, TryLock, TryShare, RegisterMode, ClearPoison, TryPoll, Poll, Cancel}
 use Rattle.saa_word_steps.specs.declared.place.Place.{Place}
 use Rattle.saa_word_steps.specs.declared.place.ReleaseAmount.TheVariants.{Requested}
 use Rattle.saa_word_steps.specs.declared.place.AfterWalk.TheVariants.{Tells, Ends, Takes}
@@ -23,26 +21,11 @@ use Rattle.saa_word_proofs.specs.Refinement.{joins_line, is_holder, gives_up, Is
 use Rattle.saa_word_proofs.specs.Rows.{line_of, updated}
 use Rattle.saa_word_proofs.specs.Registering.{is_slot}
 use Rattle.saa_word_proofs.specs.StepRefinement.{place_after}
-use Rattle.saa_word_proofs.specs.Calls.{asked_by, is_taken_up}
-use Rattle.saa_word_proofs.specs.CallStages.{IsBegun, IsTaking}
+use Rattle.saa_word_proofs.specs.Calls.{is_taken_up}
+use Rattle.saa_word_proofs.specs.CallStages.{IsBegun}
 use Rattle.saa_word_proofs.proofs.RefinementLemmas.Lists.{updated-same}
 use Rattle.saa_word_proofs.proofs.RefinementLemmas.Rows.{either, moved}
 use Rattle.saa_word_proofs.proofs.RefinementLemmas.Outcomes.{not-holder}
-
--- All stand together still
-
--- a call that isn't registered holds no place
-idle-slot : (registration : Registration) → is_idle registration ≡ true → is_slot registration ≡ false
-idle-slot Idle is = refl
-idle-slot _ is = absurd (cc)
-
--- a number that fits is small, and so is that of a mode
-fits-small : (needs : Needs) → needs.top < 2 ^ count_bits → (count : ℕ) → nat_lt needs.top count ≡ false → count < 65536
-fits-small needs wide count fits = grind (arith, nat_tests, fits, wide)
-
-mode-small : (mode : Mode) → mode_number mode < 65536
-mode-small WaitShared = omega arith
-mode-small _ = omega arith
 
 module _ (needs : Needs) (wide : needs.top < 2 ^ count_bits) (places : ℕ) (row : ℕ → ℕ) (standing : ℕ → Place) (state : AbstractState) (me : ℕ)
     (s : Invariant needs places row standing state) (quiet : (standing me).stage ≡ Quiet) where
@@ -56,19 +39,16 @@ module _ (needs : Needs) (wide : needs.top < 2 ^ count_bits) (places : ℕ) (row
   begun place free same ranged alone keeps own showing none =
       moved needs places row standing state me s place free same ranged alone
       (λ gives. (let wrong : true ≡ false = sym gives ∙ keeps in absurd (cc))) own
-      (subst (λ (owed : List (ℕ × ℕ)). IsShowing owed (s.answer_value me) place.stage)
-      (sym (subst (λ stage. IsShowing (s.owed me) (s.answer_value me) stage) quiet (s.stages.showing me))) showing) (none ∙ ap is_holder (sym quiet))
+      (subst (λ (unshown : List (ℕ × ℕ)). IsShowing unshown (s.answer_value me) place.stage)
+      (sym (subst (λ stage. IsShowing (s.unshown me) (s.answer_value me) stage) quiet (s.stages.showing me))) showing) (none ∙ ap is_holder (sym quiet))
       (λ it. absurd (not-holder needs places row standing state me s (ap is_holder quiet) it))
 
   -- a call that is done at once leaves its place as it was
   same-place : Stands (standing me)
   same-place = subst (λ (f : ℕ → Place). Invariant needs places row f state) (sym (updated-same standing me (standing me) refl)) s
 
-  -- what is so of both ways that a call starts is so of the one that it takes
-  starts-either : (test : Bool) (one other : Next) → (test ≡ true → Stands (place_after (standing me) one)) → (test ≡ false → Stands (place_after (standing me) other))
-      → Stands (place_after (standing me) (if test then one else other))
-  starts-either true one other o t = o refl
-  starts-either false one other o t = t refl
+  abbrev Starts : Next → Type 0
+  Starts next = Stands (place_after (standing me) next)
 
   -- a try that starts
   try-starts : (request : ℕ) → request < 65536 → Stands (record (standing me) { stage = AcquireLoad (record { request = request; joins = false }) })
@@ -79,9 +59,9 @@ module _ (needs : Needs) (wide : needs.top < 2 ^ count_bits) (places : ℕ) (row
   register-starts : (request : ℕ) → (places ≤ me → joins_line (place_after (standing me) (registered_as (standing me) request)).stage ≡ false) → request < 65536
       → Stands (place_after (standing me) (registered_as (standing me) request))
   register-starts request free small =
-      starts-either (is_idle (standing me).registration) _ _
+      either Starts (is_idle (standing me).registration) _ _
       (λ idle. begun (record (standing me) { stage = AcquireLoad (record { request = request; joins = true }) }) (rw idle at free) refl tt
-      (small, λ joins. idle-slot (standing me).registration idle) refl tt refl refl)
+      (small, λ joins. grind (arith, idle)) refl tt refl refl)
       (λ refused. same-place)
 
   -- a poll that starts; it doesn't give up what it is registered as
@@ -90,9 +70,7 @@ module _ (needs : Needs) (wide : needs.top < 2 ^ count_bits) (places : ℕ) (row
       → Stands (place_after (standing me) (polled_as (standing me) taking registration))
   poll-starts taking Idle is alone keeps = same-place
   poll-starts taking (AnsweredAtOnce value request) is alone keeps =
-      begun (record (standing me) { registration = Idle }) (λ out. ap joins_line quiet) (ap is_slot (sym is)) (s.stages.ranged me)
-      (subst (λ stage. IsLocallyTrue needs Idle (standing me).back stage) (sym quiet) tt) (ap (gives_up (standing me).back) quiet) (s.stages.own me)
-      (subst (λ stage. IsShowing [] (s.answer_value me) stage) (sym quiet) refl) (ap is_holder quiet)
+      rw quiet (begun (record (standing me) { registration = Idle; stage = Quiet }) (λ out. refl) (ap is_slot (sym is)) tt tt refl tt refl refl)
   poll-starts taking (Queued request) is alone keeps = begun (record (standing me) { stage = Take taking }) (λ out. refl) refl tt (alone refl) keeps tt refl refl
 
   -- a cancel that starts: it gives back what it was granted, or looks for itself in the line
@@ -101,7 +79,7 @@ module _ (needs : Needs) (wide : needs.top < 2 ^ count_bits) (places : ℕ) (row
   cancel-starts (AnsweredAtOnce value request) is =
       let releases : Place = record (standing me) { registration = Idle; stage = ReleaseLoad (Requested request); back = Ends } in
       let ends : Place = record (standing me) { registration = Idle; stage = Quiet } in
-      starts-either (is_taken_up needs request value) _ _ (λ up. begun releases (λ out. refl) (ap is_slot (sym is)) tt refl refl tt refl refl)
+      either Starts (is_taken_up needs request value) _ _ (λ up. begun releases (λ out. refl) (ap is_slot (sym is)) tt refl refl tt refl refl)
       (λ free. begun ends (λ out. refl) (ap is_slot (sym is)) tt tt refl tt refl refl)
   cancel-starts (Queued request) is = begun (record (standing me) { stage = FlagLoad; back = Takes request }) (λ out. refl) refl tt is refl tt refl refl
 
@@ -109,15 +87,15 @@ module _ (needs : Needs) (wide : needs.top < 2 ^ count_bits) (places : ℕ) (row
   starting : (call : WordCall) → (places ≤ me → joins_line (place_after (standing me) (started needs (standing me) call)).stage ≡ false) → is_taken needs.is_lock call ≡ true
       → Stands (place_after (standing me) (started needs (standing me) call))
   starting (Try count) free taken =
-      starts-either (nat_lt needs.top count) _ _ (λ more. same-place) (λ fits. try-starts count (fits-small needs wide count fits))
+      either Starts (nat_lt needs.top count) _ _ (λ more. same-place) (λ fits. try-starts count (grind (arith, nat_tests, fits, wide)))
   starting (Register count) free taken =
-      starts-either (nat_lt needs.top count) _ _ (λ more. same-place) (λ fits. register-starts count (rw fits at free) (fits-small needs wide count fits))
+      either Starts (nat_lt needs.top count) _ _ (λ more. same-place) (λ fits. register-starts count (rw fits at free) (grind (arith, nat_tests, fits, wide)))
   starting (Release count) free taken =
-      starts-either (nat_lt needs.top count) _ _ (λ more. same-place) (λ fits. starts-either (count == 0) _ _ (λ nothing. same-place)
+      either Starts (nat_lt needs.top count) _ _ (λ more. same-place) (λ fits. either Starts (count == 0) _ _ (λ nothing. same-place)
       (λ some. begun (record (standing me) { stage = ReleaseLoad (Requested count); back = Tells }) (λ out. refl) refl tt refl refl tt refl refl))
   starting TryLock free taken = try-starts 0 (omega arith)
   starting TryShare free taken = try-starts 1 (omega arith)
-  starting (RegisterMode mode) free taken = register-starts (mode_number mode) free (mode-small mode)
+  starting (RegisterMode mode) free taken = register-starts (mode_number mode) free (grind arith)
   starting ClearPoison free taken = begun (record (standing me) { stage = Clear }) free refl tt taken refl tt refl refl
   starting TryPoll free taken = poll-starts Tries (standing me).registration refl (λ slot. slot) refl
   starting Poll free taken = poll-starts Awaits (standing me).registration refl (λ slot. slot) refl
@@ -138,40 +116,8 @@ pub starts : (needs : Needs) → needs.top < 2 ^ count_bits → (places : ℕ) (
 starts needs wide places row standing state me call here s quiet taken =
     starts-anyone needs wide places row standing state me call (λ out. absurd (omega (arith, out, here))) s quiet taken
 
--- What has been named
-
--- a poll, a cancel and a registration that start
-poll-begun : (needs : Needs) (place : Place) (taking : PollMode) (call : WordCall) (registration : Registration) → place.stage ≡ Quiet
-    → ((request : ℕ) → IsTaking call (Queued request) taking []) → IsBegun needs call registration (polled_as place taking registration)
-poll-begun needs place taking call (Queued request) quiet is = is request
-poll-begun needs place taking call _ quiet is = quiet
-
-cancel-begun : (needs : Needs) (place : Place) (registration : Registration) → place.stage ≡ Quiet
-    → IsBegun needs Cancel registration (cancelled_as needs place registration)
-cancel-begun needs place Idle quiet = quiet
-cancel-begun needs place (AnsweredAtOnce value request) quiet =
-    either (IsBegun needs Cancel (AnsweredAtOnce value request)) (is_taken_up needs request value) _ _ (λ up. (refl, (refl, up, refl))) (λ free. refl)
-cancel-begun needs place (Queued request) quiet = (refl, refl, refl)
-
-register-begun : (needs : Needs) (place : Place) (call : WordCall) (request : ℕ) → place.stage ≡ Quiet
-    → asked_by call ≡ Some (record { request = request; joins = true }) → IsBegun needs call place.registration (registered_as place request)
-register-begun needs place call request quiet is =
-    either (IsBegun needs call place.registration) (is_idle place.registration) _ _ (λ idle. (is, refl)) (λ refused. quiet)
-
 -- A call that starts has named nothing
 pub call-begun : (needs : Needs) (place : Place) (call : WordCall) → place.stage ≡ Quiet → is_taken needs.is_lock call ≡ true
     → IsBegun needs call place.registration (started needs place call)
-call-begun needs place (Try count) quiet taken =
-    either (IsBegun needs (Try count) place.registration) (nat_lt needs.top count) _ _ (λ more. quiet) (λ fits. (refl, refl))
-call-begun needs place (Register count) quiet taken =
-    either (IsBegun needs (Register count) place.registration) (nat_lt needs.top count) _ _ (λ more. quiet) (λ fits. register-begun needs place (Register count) count quiet refl)
-call-begun needs place (Release count) quiet taken =
-    let goes = either (IsBegun needs (Release count) place.registration) in
-    goes (nat_lt needs.top count) _ _ (λ more. quiet) (λ fits. goes (count == 0) _ _ (λ nothing. quiet) (λ some. (refl, refl)))
-call-begun needs place Shut quiet taken = (taken, refl, refl)
-call-begun needs place (RegisterMode mode) quiet taken = register-begun needs place (RegisterMode mode) (mode_number mode) quiet refl
-call-begun needs place PoisonLock quiet taken = (taken, refl, refl)
-call-begun needs place TryPoll quiet taken = poll-begun needs place Tries TryPoll place.registration quiet (λ request. (refl, refl))
-call-begun needs place Poll quiet taken = poll-begun needs place Awaits Poll place.registration quiet (λ request. (refl, refl))
-call-begun needs place Cancel quiet taken = cancel-begun needs place place.registration quiet
-call-begun needs place _ quiet taken = (refl, refl)
+call-begun needs place Cancel quiet taken = grind (arith, quiet)
+call-begun needs place call quiet taken = grind (arith, quiet, taken)

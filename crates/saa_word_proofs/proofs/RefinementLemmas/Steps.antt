@@ -1,83 +1,54 @@
 -- Every step of every place keeps that words and places refine the abstract state.
-use Rattle.std.proofs.Common.{◌^◌, ◌≡◌, ℕ, ◌<◌, ◌≤◌, true, false, refl, sym, ap, subst, ◌∙◌, arith, inl, inr}
-use Rattle.std.proofs.lemmas.Bool.{cases_Bool, cases_lt}
+use Rattle.std.proofs.Common.{◌^◌, ◌≡◌, ℕ, ◌<◌, ◌≤◌, true, false, refl, sym, ap, ◌∙◌, arith}
+use Rattle.std.proofs.lemmas.Bool.{cases_lt}
 use Rattle.saa_core_words.specs.Words.{count_bits}
 use Rattle.saa_word_steps.specs.declared.place.Place.{Place}
 use Rattle.saa_word_steps.specs.declared.place.Registration.{Registration}
 use Rattle.saa_word_steps.specs.declared.place.AfterWalk.{AfterWalk}
-use Rattle.saa_word_steps.specs.declared.place.AfterWalk.TheVariants.{Takes}
 use Rattle.saa_word_steps.specs.declared.place.Stage.{Stage}
 use Rattle.saa_word_steps.specs.declared.place.Stage.TheVariants.{Quiet, ReadLoad, AcquireLoad, AcquireExchange, Prepare, Join, ReleaseLoad, ReleaseExchange, BackLoad, BackStore, Forward, CutToClose, CutForRetry, Close, Empty, Retry, ShowLoad, ShowStore, Take, FlagLoad, FlagExchange, LookLoad, LookStore, Unlink, DropTail, PoisonLoad, PoisonExchange, Clear}
 use Rattle.saa_word_steps.specs.Needs.{Needs, AreNeeds}
 use Rattle.saa_word_steps.specs.AbstractState.{AbstractState}
-use Rattle.saa_word_proofs.specs.Refinement.{uses_own, joins_line, IsVisiting, IsLeaving, IsLocallyTrue, Invariant}
-use Rattle.saa_word_proofs.specs.Rows.{updated}
+use Rattle.saa_word_proofs.specs.Refinement.{uses_own, joins_line, IsVisiting, IsLocallyTrue, Invariant}
 use Rattle.saa_word_proofs.specs.Registering.{is_slot}
 use Rattle.saa_word_proofs.specs.StepRefinement.{StepRefines}
 use Rattle.saa_word_proofs.proofs.RefinementLemmas.Lists.{updated-same}
 use Rattle.saa_word_proofs.proofs.RefinementLemmas.Rows.{IsStep, IsOwnStep, at-stage, loaded}
-use Rattle.saa_word_proofs.proofs.RefinementLemmas.Asking.{step-ReadLoad, step-AcquireLoad}
-use Rattle.saa_word_proofs.proofs.RefinementLemmas.Joining.{step-AcquireExchange, step-Prepare, step-Join}
-use Rattle.saa_word_proofs.proofs.RefinementLemmas.Releasing.{step-ReleaseLoad, step-ReleaseExchange}
-use Rattle.saa_word_proofs.proofs.RefinementLemmas.Walking.{step-BackLoad, step-BackStore, step-Forward}
-use Rattle.saa_word_proofs.proofs.RefinementLemmas.Cutting.{step-CutToClose, step-CutForRetry}
-use Rattle.saa_word_proofs.proofs.RefinementLemmas.Closing.{step-Close}
-use Rattle.saa_word_proofs.proofs.RefinementLemmas.Emptying.{step-Empty}
-use Rattle.saa_word_proofs.proofs.RefinementLemmas.GoingRound.{step-Retry}
-use Rattle.saa_word_proofs.proofs.RefinementLemmas.Showing.{step-ShowLoad}
-use Rattle.saa_word_proofs.proofs.RefinementLemmas.PollMode.{take-slot, step-ShowStore, step-Take}
-use Rattle.saa_word_proofs.proofs.RefinementLemmas.Flagging.{step-FlagLoad, step-FlagExchange}
-use Rattle.saa_word_proofs.proofs.RefinementLemmas.Looking.{step-LookLoad, step-LookStore}
-use Rattle.saa_word_proofs.proofs.RefinementLemmas.Unlinking.{step-Unlink, step-DropTail}
+use Rattle.saa_word_proofs.proofs.RefinementLemmas.Joining.{step-ReadLoad, step-AcquireLoad, step-AcquireExchange, step-Prepare, step-Join}
+use Rattle.saa_word_proofs.proofs.RefinementLemmas.Walking.{step-BackLoad, step-BackStore, step-Forward, step-CutToClose, step-CutForRetry}
+use Rattle.saa_word_proofs.proofs.RefinementLemmas.Closing.{step-Close, step-Empty, step-Retry}
+use Rattle.saa_word_proofs.proofs.RefinementLemmas.Showing.{step-ShowLoad, take-slot, step-ShowStore, step-Take}
+use Rattle.saa_word_proofs.proofs.RefinementLemmas.Flagging.{step-FlagLoad, step-FlagExchange, step-LookLoad, step-LookStore, step-ReleaseLoad, step-ReleaseExchange}
+use Rattle.saa_word_proofs.proofs.RefinementLemmas.Leaving.{step-Unlink, step-DropTail}
 use Rattle.saa_word_proofs.proofs.RefinementLemmas.Poisoning.{step-PoisonLoad, step-PoisonExchange, step-Clear}
 use Rattle.saa_word_proofs.proofs.RefinementLemmas.Outcomes.{silent}
 
 -- a place that is in no call stays as it is
 step-Quiet : IsStep Quiet
 step-Quiet needs lawful wide places row standing state me room s at =
-    silent refl (omega arith) (loaded needs places row (updated standing me (standing me)) state 0
-    (subst (λ (f : ℕ → Place). Invariant needs places row f state) (sym (updated-same standing me (standing me) refl)) s))
+    silent refl (omega arith) (rw (updated-same standing me (standing me) refl) (loaded needs places row standing state 0 s))
 
--- what a cancel remembers says that its place is registered in the line
-leaving-slot : (registration : Registration) (back : AfterWalk) → IsLeaving registration back → is_slot registration ≡ true
-leaving-slot registration (Takes request) leaves = ap is_slot leaves
-leaving-slot registration _ leaves = absurd leaves
-
+-- what a place that uses a word of its own remembers says that it is registered in the line
 own-slot : (needs : Needs) (registration : Registration) (back : AfterWalk) (stage : Stage) → uses_own stage ≡ true → joins_line stage ≡ false
     → IsLocallyTrue needs registration back stage → is_slot registration ≡ true
-own-slot needs registration back (Prepare request seen) uses never alone = absurd (cc)
-own-slot needs registration back (Join request seen) uses never alone = absurd (cc)
 own-slot needs registration back (Take taking) uses never alone = take-slot needs registration back taking alone
-own-slot needs registration back FlagLoad uses never alone = leaving-slot registration back alone
-own-slot needs registration back (FlagExchange seen) uses never alone = leaving-slot registration back alone.0
-own-slot needs registration back (LookLoad seen current newer previous) uses never alone = leaving-slot registration back alone
-own-slot needs registration back (LookStore seen current newer line) uses never alone = leaving-slot registration back alone
-own-slot needs registration back (Unlink seen newer line older) uses never alone = leaving-slot registration back alone
-own-slot needs registration back (DropTail seen older) uses never alone = leaving-slot registration back alone.0
-own-slot needs registration back stage uses never alone = absurd (cc)
+own-slot needs registration back stage uses never alone = grind (arith, uses, never, alone)
 
 -- a place that uses a word of its own is no visitor
 own-here : (needs : Needs) (places : ℕ) (row : ℕ → ℕ) (standing : ℕ → Place) (state : AbstractState) (me : ℕ) (s : Invariant needs places row standing state)
     (stage : Stage) → (standing me).stage ≡ stage → uses_own stage ≡ true → me < places
 own-here needs places row standing state me s stage at uses =
-    elim (cases_lt me places) [
-      | inl inside ↦ inside
-      | inr beyond ↦
-          s.seats.within me (own-slot needs (standing me).registration (standing me).back stage uses
-          (ap joins_line (sym at) ∙ s.seats.beyond me beyond)
-          (at-stage needs places row standing state me s stage at).alone)
-    ]
+    let known = at-stage needs places row standing state me s stage at in
+    let slot = own-slot needs (standing me).registration (standing me).back stage uses in
+    let within : places ≤ me → me < places = λ beyond. s.seats.within me (slot (ap joins_line (sym at) ∙ s.seats.beyond me beyond) known.alone) in
+    grind (arith, cases_lt me places, within)
 
 -- a number beyond the places is a visitor's
 pub visiting : (needs : Needs) (places : ℕ) (row : ℕ → ℕ) (standing : ℕ → Place) (state : AbstractState) (me : ℕ) (s : Invariant needs places row standing state)
     → places ≤ me → IsVisiting (standing me).stage
-visiting needs places row standing state me s beyond = (
-  s.seats.beyond me beyond,
-  elim (cases_Bool (uses_own (standing me).stage)) [
-    | inl uses ↦ (let here : me < places = own-here needs places row standing state me s (standing me).stage refl uses in absurd (omega (arith, here, beyond)))
-    | inr free ↦ free
-  ],
-)
+visiting needs places row standing state me s beyond =
+    let here : uses_own (standing me).stage ≡ true → me < places = own-here needs places row standing state me s (standing me).stage refl in
+    (s.seats.beyond me beyond, grind (arith, beyond, here))
 
 -- the step of a place that uses a word of its own
 by-place : (stage : Stage) → uses_own stage ≡ true → IsOwnStep stage → IsStep stage

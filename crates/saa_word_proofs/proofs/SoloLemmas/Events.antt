@@ -1,11 +1,11 @@
 -- The events of a call that moves alone between two moments when the object is at rest.
-use Rattle.std.proofs.Common.{◌≡◌, ◌⊎◌, ℕ, ◌+◌, true, false, List, [], ◌∷◌, ◌++◌, take, drop, Some, None, is_some, refl, sym, ap, subst, ◌∙◌, arith, inl, inr, append_assoc}
+use Rattle.std.proofs.Common.{◌≡◌, ◌⊎◌, ℕ, ◌+◌, true, false, List, [], ◌∷◌, ◌++◌, take, drop, Some, None, refl, sym, ap, subst, ◌∙◌, arith, inl, inr, append_assoc}
 use Rattle.std.proofs.lemmas.List.{take-append-drop}
 use Rattle.std.proofs.lemmas.Bool.{cases_Bool}
 use Rattle.std.proofs.lemmas.Bool.Decides.{nat_tests}
 use Rattle.saa_word_steps.specs.Needs.{Needs, kept}
 use Rattle.saa_word_steps.specs.declared.event.Event.{Event}
-use Rattle.saa_word_steps.specs.declared.event.Event.TheVariants.{Closed, Granted, Showed, Poisoned}
+use Rattle.saa_word_steps.specs.declared.event.Event.TheVariants.{Granted, Showed, Poisoned}
 use Rattle.saa_word_steps.specs.AbstractState.{AbstractState, IsEnabled, after_event, IsRun, IsFront, IsSettledAt, is_in, takes_of, answered_with}
 use Rattle.saa_word_proofs.specs.History.{is_named, named, of_place}
 use Rattle.saa_word_proofs.proofs.RefinementLemmas.Lists.{in-append, front-append, takes-append}
@@ -23,11 +23,14 @@ pub named-append : (first second : List Event) → named (first ++ second) ≡ n
 named-append [] second = refl
 named-append (event ∷ first) second = grind (arith, named-append first second)
 
--- while nothing is open and nothing due, nothing happens that no answer names
-nothing-else : (needs : Needs) (state : AbstractState) (me : ℕ) (event : Event) → state.unclosed ≡ false → ((place : ℕ) → state.due place ≡ None)
-    → is_named event ≡ false → IsEnabled needs state me event → ⊥
-nothing-else needs state me (Showed shown_place) closed paid unnamed allowed = grind (arith, allowed, paid shown_place)
-nothing-else needs state me _ closed paid unnamed allowed = grind (arith, allowed, closed, unnamed)
+-- nothing is open, and no answer due
+abbrev pub IsCalm : AbstractState → Type 0
+IsCalm state = (state.unclosed ≡ false) × ((place : ℕ) → state.granted place ≡ None)
+
+-- then nothing happens that no answer names
+nothing-else : (needs : Needs) (state : AbstractState) (me : ℕ) (event : Event) → IsCalm state → is_named event ≡ false → IsEnabled needs state me event → ⊥
+nothing-else needs state me (Showed shown_place) calm unnamed allowed = grind (arith, allowed, calm.1 shown_place)
+nothing-else needs state me _ calm unnamed allowed = grind (arith, allowed, calm.0, unnamed)
 
 -- a list of events of a place leads from one state to another, and answers name these of them
 pub record NamedRun (needs : Needs) (me : ℕ) (start last : AbstractState) (names : List Event) : Type 0 where
@@ -48,19 +51,15 @@ unnamed-keep needs me P keeps (event ∷ rest) state last names run was =
     ]
 
 -- where answers name nothing, nothing happens
-pub no-events : {needs : Needs} {me : ℕ} {state last : AbstractState} → state.unclosed ≡ false → ((place : ℕ) → state.due place ≡ None)
-    → NamedRun needs me state last [] → state ≡ last
-no-events {needs} {me} {state} {last} closed paid leads =
-    unnamed-keep needs me (λ z. state ≡ z)
-    (λ z event unnamed allowed same.
-    absurd (nothing-else needs state me event closed paid unnamed (subst (λ y. IsEnabled needs y me event) (sym same) allowed)))
+pub no-events : {needs : Needs} {me : ℕ} {state last : AbstractState} → IsCalm state → NamedRun needs me state last [] → state ≡ last
+no-events {needs} {me} {state} {last} calm leads =
+    unnamed-keep needs me (λ z. state ≡ z) (λ z event unnamed allowed same. absurd (nothing-else needs state me event calm unnamed (rw (← same) at allowed)))
     leads.events state last leads.named leads.run refl
 
 -- what answers name first comes first, and what they name behind it comes behind
-pub first-event : {needs : Needs} {me : ℕ} {state last : AbstractState} {event : Event} {more : List Event} → state.unclosed ≡ false
-    → ((place : ℕ) → state.due place ≡ None) → NamedRun needs me state last (event ∷ more)
-    → IsEnabled needs state me event × NamedRun needs me (after_event needs state me event) last more
-first-event {needs} {me} {state} {last} {event} {more} closed paid leads = from leads.events leads.named leads.run
+pub first-event : {needs : Needs} {me : ℕ} {state last : AbstractState} {event : Event} {more : List Event} → IsCalm state
+    → NamedRun needs me state last (event ∷ more) → IsEnabled needs state me event × NamedRun needs me (after_event needs state me event) last more
+first-event {needs} {me} {state} {last} {event} {more} calm leads = from leads.events leads.named leads.run
   where
     from : (events : List Event) → named events ≡ event ∷ more → IsRun needs state (of_place me events) last
         → IsEnabled needs state me event × NamedRun needs me (after_event needs state me event) last more
@@ -70,10 +69,9 @@ first-event {needs} {me} {state} {last} {event} {more} closed paid leads = from 
           | inl is ↦
               let both : head ∷ named rest ≡ event ∷ more = rw is at names in
               let same : head ≡ event = cc in
-              let behind : named rest ≡ more = cc in
               subst (λ e. IsEnabled needs state me e × NamedRun needs me (after_event needs state me e) last more) same
-              (run.0, record { events = rest; run = run.1; named = behind })
-          | inr unnamed ↦ absurd (nothing-else needs state me head closed paid unnamed run.0)
+              (run.0, record { events = rest; run = run.1; named = cc })
+          | inr unnamed ↦ absurd (nothing-else needs state me head calm unnamed run.0)
         ]
 
 -- Answers
@@ -81,17 +79,7 @@ first-event {needs} {me} {state} {last} {event} {more} closed paid leads = from 
 -- the answer of a place of a front is due or shown, and that of each other place is as it was
 abbrev pub IsPaid : ℕ → AbstractState → List (ℕ × ℕ) → AbstractState → ℕ → Type 0
 IsPaid value start front state place =
-    ((state.due place ≡ Some value) × (is_in place front ≡ true)) ⊎ ((state.due place ≡ None) × (state.shown place ≡ answered_with value front start.shown place))
-
--- an answer that is shown is no longer due
-paid-shown : (needs : Needs) (value : ℕ) (start state : AbstractState) (front : List (ℕ × ℕ)) (me shown_place : ℕ) → is_some (state.due shown_place) ≡ true
-    → ((place : ℕ) → IsPaid value start front state place) → (place : ℕ) → IsPaid value start front (after_event needs state me (Showed shown_place)) place
-paid-shown needs value start state front me shown_place allowed paid place = grind (arith, nat_tests, allowed, paid place)
-
--- once nothing is due, all answers of the front are shown
-paid-all : (value : ℕ) (start last : AbstractState) (front : List (ℕ × ℕ)) → ((place : ℕ) → IsPaid value start front last place)
-    → ((place : ℕ) → last.due place ≡ None) → (place : ℕ) → last.shown place ≡ answered_with value front start.shown place
-paid-all value start last front paid none place = grind (arith, paid place, none place)
+    ((state.granted place ≡ Some value) × (is_in place front ≡ true)) ⊎ ((state.granted place ≡ None) × (state.answered place ≡ answered_with value front start.answered place))
 
 -- Grants
 
@@ -108,7 +96,7 @@ pub record Grants (needs : Needs) (start state : AbstractState) : Type 0 where
 pub record Settles (needs : Needs) (start last : AbstractState) : Type 0 where
   pub grants : Grants needs start last
   pub open grants use *
-  pub shown : (place : ℕ) → last.shown place ≡ answered_with 0 front start.shown place
+  pub answered : (place : ℕ) → last.answered place ≡ answered_with 0 front start.answered place
   pub settled : IsSettledAt needs last.count last.line
 
 -- an event that no answer names grants more of the line, or none
@@ -123,32 +111,26 @@ grants-event needs start state me (Granted askers) unnamed allowed was =
       fits = front-append needs start.count was.front more was.fits (subst (λ (n : ℕ). IsFront needs n more) was.count allowed.3);
       count = omega (arith, was.count, takes-append needs was.front more);
       same = was.same;
-      paid = λ place. pays place;
+      paid = λ place. grind (arith, was.paid place, in-append place was.front more);
     }
-  where
-    pays : (place : ℕ) → IsPaid 0 start (was.front ++ take askers state.line) (after_event needs state me (Granted askers)) place
-    pays place = grind (arith, was.paid place, in-append place was.front (take askers state.line))
-grants-event needs start state me Closed unnamed allowed was =
-    record { front = was.front; parts = was.parts; fits = was.fits; count = was.count; same = was.same; paid = was.paid }
-grants-event needs start state me (Showed shown_place) unnamed allowed was = record {
+grants-event needs start state me event unnamed allowed was = record {
   front = was.front;
-  parts = was.parts;
+  parts = grind (arith, was.parts, unnamed);
   fits = was.fits;
-  count = was.count;
-  same = was.same;
-  paid = paid-shown needs 0 start state was.front me shown_place allowed.0 was.paid;
+  count = grind (arith, was.count, unnamed);
+  same = grind (arith, was.same, unnamed);
+  paid = λ place. grind (arith, nat_tests, was.paid place, allowed, unnamed);
 }
-grants-event needs start state me _ unnamed allowed was = let wrong : true ≡ false = unnamed in absurd (cc)
 
 -- Where answers name nothing more, and nothing is due, the front of the line that fits is granted until the object is at rest
-pub settles : {needs : Needs} {me : ℕ} {start last : AbstractState} (row : ℕ → ℕ) → NamedRun needs me start last [] → ((place : ℕ) → start.due place ≡ None)
+pub settles : {needs : Needs} {me : ℕ} {start last : AbstractState} (row : ℕ → ℕ) → NamedRun needs me start last [] → ((place : ℕ) → start.granted place ≡ None)
     → WordsAreQuiescent needs row last → Settles needs start last
 settles {needs} {me} {start} {last} row leads paid rests =
     let g : Grants needs start last =
     unnamed-keep needs me (Grants needs start) (λ z event unnamed allowed was. grants-event needs start z me event unnamed allowed was)
     leads.events start last leads.named leads.run
     (record { front = []; parts = refl; fits = tt; count = omega arith; same = refl; paid = λ place. inr (paid place, refl) }) in
-    record { grants = g; shown = paid-all 0 start last g.front g.paid rests.paid; settled = rests.settled }
+    record { grants = g; answered = λ place. grind (arith, g.paid place, rests.paid place); settled = rests.settled }
 
 -- Poison
 
@@ -162,26 +144,22 @@ record Tells (needs : Needs) (start state : AbstractState) : Type 0 where
 
 tells-event : (needs : Needs) (start state : AbstractState) (me : ℕ) (event : Event) → is_named event ≡ false → IsEnabled needs state me event
     → Tells needs start state → Tells needs start (after_event needs state me event)
-tells-event needs start state me (Showed shown_place) unnamed allowed was = record {
-  poison = was.poison;
-  count = was.count;
-  closed = was.closed;
-  line = was.line;
-  paid = paid-shown needs 2 start state start.line me shown_place allowed.0 was.paid;
+tells-event needs start state me event unnamed allowed was = record {
+  poison = grind (arith, was.poison, unnamed);
+  count = grind (arith, was.count, was.closed, allowed, unnamed);
+  closed = grind (arith, was.closed, unnamed);
+  line = grind (arith, was.line, was.closed, allowed, unnamed);
+  paid = λ place. grind (arith, nat_tests, was.paid place, was.closed, allowed, unnamed);
 }
-tells-event needs start state me _ unnamed allowed was = absurd (grind (arith, allowed, was.closed, unnamed))
 
 -- Behind poison all waiters are shown that, until nothing is due
-pub tells : (needs : Needs) (me : ℕ) (start : AbstractState) {last : AbstractState} → NamedRun needs me (after_event needs start me Poisoned) last [] → start.unclosed ≡ false
-    → ((place : ℕ) → start.due place ≡ None) → ((place : ℕ) → last.due place ≡ None)
-    → (last.poisoned ≡ true) × (last.line ≡ []) × ((place : ℕ) → last.shown place ≡ answered_with 2 start.line start.shown place)
+pub tells : (needs : Needs) (me : ℕ) (start : AbstractState) {last : AbstractState} → NamedRun needs me (after_event needs start me Poisoned) last []
+    → IsCalm start → ((place : ℕ) → last.granted place ≡ None)
+    → (last.poisoned ≡ true) × (last.line ≡ []) × ((place : ℕ) → last.answered place ≡ answered_with 2 start.line start.answered place)
     × (last.count ≡ kept needs start.count)
-tells needs me start {last} leads closed paid none =
+tells needs me start {last} leads calm none =
     let t : Tells needs start last =
     unnamed-keep needs me (Tells needs start) (λ z event unnamed allowed was. tells-event needs start z me event unnamed allowed was)
     leads.events (after_event needs start me Poisoned) last leads.named leads.run
-    (record { poison = refl; count = refl; closed = closed; line = refl; paid = λ place. owes place }) in
-    (t.poison, t.line, paid-all 2 start last start.line t.paid none, t.count)
-  where
-    owes : (place : ℕ) → IsPaid 2 start start.line (after_event needs start me Poisoned) place
-    owes place = grind (arith, paid place)
+    (record { poison = refl; count = refl; closed = calm.0; line = refl; paid = λ place. grind (arith, calm.1 place) }) in
+    (t.poison, t.line, λ place. grind (arith, t.paid place, none place), t.count)

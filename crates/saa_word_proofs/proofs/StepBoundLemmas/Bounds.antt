@@ -2,10 +2,7 @@
 use Rattle.std.proofs.Common.{ℕ, suc, zero, ◌+◌, ◌*◌, ◌≤◌, arith}
 use Rattle.saa_core_words.specs.Words.{line_word_of}
 use Rattle.saa_word_steps.specs.declared.place.AfterWalk.{AfterWalk}
-use Rattle.saa_word_steps.specs.declared.place.PollMode.TheVariants.{Gives}
-use Rattle.saa_word_steps.specs.declared.place.AfterShow.TheVariants.{Ends}
 use Rattle.saa_word_steps.specs.declared.place.Stage.{Stage}
-use Rattle.saa_word_steps.specs.declared.place.Stage.TheVariants.{ShowLoad, ShowStore, Take}
 use Rattle.saa_word_proofs.specs.StepBound.{met, way, steps_left, step_bound}
 
 -- no more places are met than there is fuel
@@ -16,9 +13,6 @@ met-bounded places row (suc more) link = grind (arith, met-bounded places row mo
 -- where no way is longer than there are places, no step bound is more than this
 left-bounded : (ways : ℕ → ℕ) (places number : ℕ) (back : AfterWalk) (stage : Stage) → ((link : ℕ) → ways link ≤ places)
     → steps_left ways number back stage ≤ 16 * places + 13
-left-bounded ways places number back (ShowLoad current value Ends) most = grind arith
-left-bounded ways places number back (ShowStore current next value Ends) most = grind arith
-left-bounded ways places number back (Take (Gives request)) most = grind arith
 left-bounded ways places number back stage most = grind arith
 
 pub step_bound-bounded : (places : ℕ) (row : ℕ → ℕ) (back : AfterWalk) (stage : Stage) → step_bound places row back stage ≤ 16 * places + 13

@@ -1,21 +1,19 @@
 -- Ways along the line, and along those whose answers are to be shown, where words, places and the abstract state stand together.
-use Rattle.std.proofs.Common.{◌≡◌, ℕ, ◌+◌, ◌<◌, ◌≤◌, pred, true, false, ◌==◌, List, [], ◌∷◌, ◌++◌, length, refl, sym, ap, subst, ◌∙◌, arith, inl, inr, length-append, append_assoc}
+use Rattle.std.proofs.Common.{◌≡◌, ℕ, ◌+◌, ◌<◌, ◌≤◌, pred, false, ◌==◌, List, [], ◌∷◌, ◌++◌, length, refl, sym, ap, subst, ◌∙◌, arith, length-append, append_assoc}
 use Rattle.std.specs.Prelude.{nat_lt}
-use Rattle.std.proofs.lemmas.Bool.{cases_Bool}
 use Rattle.std.proofs.lemmas.Bool.Decides.{nat_tests}
 use Rattle.saa_core_spec.specs.Object.{one_if, times}
-use Rattle.saa_core_spec.proofs.Counts.{same_number, number_same, one_if-le, times-append}
+use Rattle.saa_core_spec.proofs.Counts.{number_same, one_if-le, times-append}
 use Rattle.saa_core_words.specs.declared.word.Word.{Word}
 use Rattle.saa_core_words.specs.declared.line_word.LineWord.{LineWord}
 use Rattle.saa_core_words.specs.Words.{line_number, line_word_of}
 use Rattle.saa_word_steps.specs.declared.place.Place.{Place}
-use Rattle.saa_word_steps.specs.declared.place.Stage.{Stage}
 use Rattle.saa_word_steps.specs.Needs.{Needs}
-use Rattle.saa_word_steps.specs.AbstractState.{AbstractState, is_empty, held_by}
+use Rattle.saa_word_steps.specs.AbstractState.{AbstractState, held_by}
 use Rattle.saa_word_steps.proofs.AbstractRuns.{waits-none}
-use Rattle.saa_word_proofs.specs.Refinement.{newest, is_holder, IsShowing, Work, IsAt, IsBack, IsFound, IsHolding, Invariant}
+use Rattle.saa_word_proofs.specs.Refinement.{newest, Work, IsAt, IsBack, IsFound, Invariant}
 use Rattle.saa_word_proofs.specs.Rows.{IsBehind, line_of, main_of, updated}
-use Rattle.saa_word_proofs.proofs.RefinementLemmas.Lists.{newest-any, newest-append, newest-last}
+use Rattle.saa_word_proofs.proofs.RefinementLemmas.Lists.{newest-uncut, newest-append, newest-last}
 use Rattle.saa_word_proofs.proofs.RefinementLemmas.Rows.{row-other}
 use Rattle.saa_word_proofs.proofs.RefinementLemmas.Linking.{IsLooked, looked}
 use Rattle.saa_word_proofs.proofs.RefinementLemmas.Frames.{newest-stands}
@@ -58,29 +56,23 @@ module _ (needs : Needs) (places : ℕ) (row : ℕ → ℕ) (standing : ℕ → 
   held-way link part behind leads held = record { behind = behind; leads = leads; seats = λ place. omega (arith, held place, seat place) }
 
   -- a place whose answer is to be shown isn't in the line, and one in the line has none to be shown
-  pub owed-held : (shows place : ℕ) → times place (s.owed shows) + times place state.line ≤ held_by place state
-  owed-held shows place = grind (arith, s.debts.once shows place, s.debts.due_to shows place, waits-none place (s.owed shows))
+  pub unshown-held : (shows place : ℕ) → times place (s.unshown shows) + times place state.line ≤ held_by place state
+  unshown-held shows place = grind (arith, s.grants.once shows place, s.grants.granted_to shows place, waits-none place (s.unshown shows))
 
-  pub owed-none : (shows place : ℕ) → 0 < times place state.line → times place (s.owed shows) ≡ 0
-  owed-none shows place there = omega (arith, there, owed-held shows place, seat place, one_if-le (nat_lt place places))
+  pub unshown-none : (shows place : ℕ) → 0 < times place state.line → times place (s.unshown shows) ≡ 0
+  unshown-none shows place there = omega (arith, there, unshown-held shows place, seat place, one_if-le (nat_lt place places))
 
   -- the newest whose answer a place has to show leads along all of them
-  pub owed-way : (shows link : ℕ) → link ≡ newest 0 (s.owed shows) → IsWay places row link (s.owed shows)
-  owed-way shows link leads = held-way link (s.owed shows) (s.debts.links shows) leads (λ place. omega (arith, owed-held shows place))
+  pub unshown-way : (shows link : ℕ) → link ≡ newest 0 (s.unshown shows) → IsWay places row link (s.unshown shows)
+  unshown-way shows link leads = held-way link (s.unshown shows) (s.grants.links shows) leads (λ place. omega (arith, unshown-held shows place))
 
   -- the tail leads along the places that aren't cut off, and the newest of those that are along them
   parts-times : (place : ℕ) → times place state.line ≡ times place s.cut + times place s.uncut
   parts-times place = ap (times place) s.line.parts ∙ times-append place s.cut s.uncut
 
-  tail-newest : (main_of row).tail ≡ newest 0 s.uncut
-  tail-newest =
-      s.main.tail ∙ ap (newest 0) s.line.parts ∙ newest-append 0 s.cut s.uncut ∙ elim (cases_Bool (is_empty s.uncut)) [
-        | inl none ↦ ap (λ (l : List (ℕ × ℕ)). newest (newest 0 l) s.uncut) (s.line.some none)
-        | inr some ↦ newest-any (newest 0 s.cut) 0 s.uncut some
-      ]
-
   pub uncut-way : IsWay places row (main_of row).tail s.uncut
-  uncut-way = held-way _ s.uncut s.line.stays tail-newest (λ place. omega (arith, parts-times place))
+  uncut-way =
+      held-way _ s.uncut s.line.stays (s.main.tail ∙ newest-uncut state.line s.cut s.uncut s.line.parts s.line.some) (λ place. omega (arith, parts-times place))
 
   pub cut-way : (link : ℕ) → link ≡ newest 0 s.cut → IsWay places row link s.cut
   cut-way link leads = held-way link s.cut s.line.granted leads (λ place. omega (arith, parts-times place))
@@ -88,22 +80,10 @@ module _ (needs : Needs) (places : ℕ) (row : ℕ → ℕ) (standing : ℕ → 
   -- where nobody is cut off, the newest of a front of the line leads along it
   line-way : s.cut ≡ [] → IsWay places row (main_of row).tail state.line
   line-way whole =
-      subst (λ (l : List (ℕ × ℕ)). IsWay places row (main_of row).tail l) (sym (s.line.parts ∙ ap (λ (l : List (ℕ × ℕ)). l ++ s.uncut) whole)) uncut-way
+      let is : state.line ≡ s.uncut = grind (arith, s.line.parts, whole) in rw is uncut-way
 
   pub part-way : s.cut ≡ [] → (part rest : List (ℕ × ℕ)) → state.line ≡ part ++ rest → (link : ℕ) → link ≡ newest 0 part → IsWay places row link part
   part-way whole = way-front places row (main_of row).tail state.line (line-way whole)
-
-  -- what a place knows of the answers that it has to show, and of the line if it holds the flag
-  pub shows : (me : ℕ) (stage : Stage) → (standing me).stage ≡ stage → IsShowing (s.owed me) (s.answer_value me) stage
-  shows me stage at = subst (λ (now : Stage). IsShowing (s.owed me) (s.answer_value me) now) at (s.stages.showing me)
-
-  pub holder-is : (me : ℕ) → is_holder (standing me).stage ≡ true → s.holder ≡ me + 1
-  holder-is me holds = same_number s.holder (me + 1) (sym (s.stages.one me) ∙ holds)
-
-  pub holds : (me : ℕ) (stage : Stage) → (standing me).stage ≡ stage → is_holder stage ≡ true
-      → IsHolding needs (line_of row) me state.count state.line s.cut stage
-  holds me stage at is =
-      subst (λ (now : Stage). IsHolding needs (line_of row) me state.count state.line s.cut now) at (s.stages.holding me (holder-is me (ap is_holder at ∙ is)))
 
   -- The line as the holder of the flag sees it
 
@@ -130,13 +110,13 @@ module _ (needs : Needs) (places : ℕ) (row : ℕ → ℕ) (standing : ℕ → 
     pub back-way : (current newer : ℕ) (line : LineWord) → IsBack (line_of row) work.front work.behind current newer → line ≡ line_of row (pred current)
         → IsBackWay places row current newer line
     back-way current newer line back read =
-        let stands = newest-stands work.front current back.1 back.0 in
+        let linked = newest-stands work.front current back.1 back.0 in
         let leads = part-way whole work.front (work.behind ++ work.joined) work.parts current back.0 in
-        let found : line ≡ line_word_of (row current) = read ∙ ap (λ (n : ℕ). line_word_of (row n)) (sym stands.1) in
+        let found : line ≡ line_word_of (row current) = read ∙ ap (λ (n : ℕ). line_word_of (row n)) (sym linked.1) in
         record {
-          some = omega (arith, stands.1);
-          older = older-length places row current work.front leads back.1 ∙ ap (λ (w : LineWord). way places row w.older + 1) (sym found);
-          stored = ap (λ (w : LineWord). (line_word_of (line_number (record w { newer = newer }))).older) found ∙ omega arith;
+          some = omega (arith, linked.1);
+          older = grind (arith, older-length places row current work.front leads back.1, found);
+          stored = omega (arith, ap (λ (w : LineWord). w.older) found, ap (λ (w : LineWord). w.request) found);
         }
 
     -- the first of those behind the front leads along the front and itself, and its newer link to one more
@@ -170,17 +150,12 @@ module _ (needs : Needs) (places : ℕ) (row : ℕ → ℕ) (standing : ℕ → 
     pub next-length : (behind : List (ℕ × ℕ)) (current : ℕ) → work.behind ≡ behind → IsAt (line_of row) behind current → current == seen.tail ≡ false
         → way places row (line_word_of (row current)).newer ≡ length work.front + 2
     next-length [] current is at more = absurd (cc)
-    next-length (asker ∷ []) current is at more =
-        let tail : seen.tail ≡ current =
-        work.tail ∙ ap (λ (l : List (ℕ × ℕ)). newest 0 (work.front ++ l)) is ∙ newest-last 0 work.front asker ∙ sym at.0 in
-        absurd (grind (arith, nat_tests, more, tail))
+    next-length (asker ∷ []) current is at more = absurd (grind (arith, nat_tests, more, work.tail, is, newest-last 0 work.front asker, at.0))
     next-length (asker ∷ (next ∷ rest)) current is at more =
-        let parts = work.parts ∙ ap (λ (l : List (ℕ × ℕ)). work.front ++ (l ++ work.joined)) is
-        ∙ sym (append_assoc work.front (asker ∷ (next ∷ [])) (rest ++ work.joined)) in
-        let link : (line_word_of (row current)).newer ≡ newest 0 (work.front ++ asker ∷ (next ∷ [])) =
-        ap (λ (n : ℕ). (line_word_of (row n)).newer) at.0 ∙ at.2.0 ∙ sym (newest-append 0 work.front (asker ∷ (next ∷ []))) in
-        way-length places row _ _ (part-way whole (work.front ++ asker ∷ (next ∷ [])) (rest ++ work.joined) parts _ link)
-        ∙ length-append work.front (asker ∷ (next ∷ []))
+        let both : List (ℕ × ℕ) = work.front ++ asker ∷ (next ∷ []) in
+        let parts : state.line ≡ both ++ (rest ++ work.joined) = grind (arith, work.parts, is, append_assoc work.front (asker ∷ (next ∷ []))) in
+        let link : (line_word_of (row current)).newer ≡ newest 0 both = grind (arith, at, newest-append 0 work.front (asker ∷ (next ∷ []))) in
+        way-length places row _ both (part-way whole both (rest ++ work.joined) parts _ link) ∙ length-append work.front (asker ∷ (next ∷ []))
 
     -- where the first of those behind the front is linked to the newest of some of the front, the tail leads along those and all behind the front
     link-line : (index older : ℕ) (line : LineWord) (l : IsLooked (line_of row) state.count state.line seen work index) (before : List (ℕ × ℕ))
@@ -192,10 +167,8 @@ module _ (needs : Needs) (places : ℕ) (row : ℕ → ℕ) (standing : ℕ → 
         let place_is : pred index ≡ l.asker.0 = omega (arith, l.link) in
         let number : ℕ = line_number (record line { older = older }) in
         let line_is : line ≡ line_of row l.asker.0 = read ∙ ap (line_of row) place_is in
-        let request : (line_word_of number).request ≡ (line_of row l.asker.0).request =
-        ap (λ (w : LineWord). (line_word_of (line_number (record w { older = older }))).request) line_is ∙ omega (arith, small) in
-        let linked : (line_word_of number).older ≡ newest 0 before =
-        ap (λ (w : LineWord). (line_word_of (line_number (record w { older = older }))).older) line_is ∙ omega (arith, small, older_is) in
+        let request : (line_word_of number).request ≡ (line_of row l.asker.0).request = omega (arith, small, ap (λ (w : LineWord). w.request) line_is) in
+        let linked : (line_word_of number).older ≡ newest 0 before = omega (arith, small, older_is, ap (λ (w : LineWord). w.request) line_is) in
         let tail : (main_of row).tail ≡ newest 0 (before ++ l.asker ∷ (l.rest ++ work.joined)) =
         leads.leads ∙ newest-append 0 work.front (l.asker ∷ (l.rest ++ work.joined)) ∙ sym (newest-append 0 before (l.asker ∷ (l.rest ++ work.joined))) in
         let after = link-way places row (main_of row).tail work.front before (l.rest ++ work.joined) l.asker number leads behind fewer request linked in

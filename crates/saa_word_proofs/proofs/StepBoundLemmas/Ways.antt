@@ -1,18 +1,18 @@
 -- Ways along older links: as long as the line that they lead along, whatever a store leaves of that line.
-use Rattle.std.proofs.Common.{◌≡◌, ℕ, suc, zero, ◌+◌, ◌<◌, ◌≤◌, true, false, List, [], ◌∷◌, ◌++◌, length, refl, sym, ap, subst, ◌∙◌, arith, inl, inr, length-append}
+use Rattle.std.proofs.Common.{◌≡◌, ℕ, suc, zero, ◌+◌, ◌<◌, ◌≤◌, false, List, [], ◌∷◌, ◌++◌, length, refl, ap, subst, ◌∙◌, arith, inl, inr, length-append}
 use Rattle.std.specs.Prelude.{nat_lt}
 use Rattle.std.proofs.lemmas.Bool.{cases_Bool}
 use Rattle.std.proofs.lemmas.Bool.Decides.{nat_tests}
-use Rattle.saa_core_spec.specs.Object.{one_if, times}
-use Rattle.saa_core_spec.proofs.Counts.{number_same, times-append, one_if-le}
+use Rattle.saa_core_spec.specs.Object.{one_if, times, without}
+use Rattle.saa_core_spec.proofs.Counts.{length-without, times-without_same, times-without_other, number_same, times-append, one_if-le}
 use Rattle.saa_core_words.specs.declared.line_word.LineWord.{LineWord}
 use Rattle.saa_core_words.specs.Words.{line_word_of}
 use Rattle.saa_word_steps.specs.AbstractState.{is_empty}
 use Rattle.saa_word_proofs.specs.Refinement.{newest}
 use Rattle.saa_word_proofs.specs.Rows.{IsBehind, line_of, updated}
 use Rattle.saa_word_proofs.proofs.RefinementLemmas.Lists.{all-same, newest-last, empty-nil, split-last, behind-append, behind-frame, behind-front, behind-rest}
-use Rattle.saa_word_proofs.proofs.RefinementLemmas.Rows.{line-at, line-other}
-use Rattle.saa_word_proofs.specs.StepBound.{is_link, met, way}
+use Rattle.saa_word_proofs.proofs.RefinementLemmas.Rows.{line-at}
+use Rattle.saa_word_proofs.specs.StepBound.{met, way}
 
 -- A way that leads along a line
 
@@ -22,29 +22,18 @@ pub record IsWay (places : ℕ) (row : ℕ → ℕ) (link : ℕ) (line : List (�
   pub leads : link ≡ newest 0 line
   pub seats : (place : ℕ) → times place line ≤ one_if (nat_lt place places)
 
--- how often all places below a number stand in a line
-abbrev total : ℕ → List (ℕ × ℕ) → ℕ
-total zero line = 0
-total (suc n) line = times n line + total n line
-
-total-more : (n : ℕ) (asker : ℕ × ℕ) (rest : List (ℕ × ℕ)) → total n (asker ∷ rest) ≡ one_if (nat_lt asker.0 n) + total n rest
-total-more zero asker rest = grind (arith, nat_tests)
-total-more (suc n) asker rest = grind (arith, nat_tests, total-more n asker rest)
-
-length-total : (n : ℕ) (line : List (ℕ × ℕ)) → ((place : ℕ) → times place line ≤ one_if (nat_lt place n)) → length line ≤ total n line
-length-total n [] seats = omega arith
-length-total n (asker ∷ rest) seats =
-    let fewer = length-total n rest (λ place. omega (arith, seats place)) in
-    omega (arith, total-more n asker rest, seats asker.0, ap one_if (number_same asker.0), fewer)
-
-total-once : (n : ℕ) (line : List (ℕ × ℕ)) → ((place : ℕ) → times place line ≤ 1) → total n line ≤ n
-total-once zero line once = omega arith
-total-once (suc n) line once = omega (arith, once n, total-once n line once)
+-- no more places stand in it than there are
+length-places : (places : ℕ) (line : List (ℕ × ℕ)) → ((place : ℕ) → times place line ≤ one_if (nat_lt place places)) → length line ≤ places
+length-places zero [] seats = omega arith
+length-places zero (asker ∷ rest) seats = absurd (grind (arith, nat_tests, seats asker.0))
+length-places (suc n) line seats =
+    let fewer = length-places n (without n line) (λ place.
+    grind (arith, nat_tests, seats place, times-without_same n line, times-without_other n place line)) in
+    omega (arith, fewer, length-without n line, seats n, one_if-le (nat_lt n (suc n)))
 
 -- nobody is met from no link
 pub met-nobody : (places : ℕ) (row : ℕ → ℕ) (fuel : ℕ) → met places row fuel 0 ≡ 0
-met-nobody places row zero = refl
-met-nobody places row (suc more) = refl
+met-nobody places row fuel = grind arith
 
 -- a front is led along from its newest, and the line before the newest from the older link of that
 pub way-front : (places : ℕ) (row : ℕ → ℕ) (link : ℕ) (line : List (ℕ × ℕ)) → IsWay places row link line → (front behind : List (ℕ × ℕ))
@@ -61,10 +50,6 @@ way-older places row link before last leads =
     way-front places row link (before ++ last ∷ []) leads before (last ∷ []) refl (line_of row last.0).older
     (behind-rest (line_of row) 0 before (last ∷ []) leads.behind).1
 
--- a place that stands in such a line is led to
-link-of : (places place here : ℕ) → 0 < here → here ≤ one_if (nat_lt place places) → is_link places (place + 1) ≡ true
-link-of places place here some seat = grind (arith, nat_tests)
-
 met-length : (places : ℕ) (row : ℕ → ℕ) (fuel link : ℕ) (line : List (ℕ × ℕ)) → length line ≤ fuel → IsWay places row link line
     → met places row fuel link ≡ length line
 met-length places row zero link line room leads = omega (arith, room)
@@ -73,25 +58,26 @@ met-length places row (suc more) link line room leads =
       | inl none ↦ rw (leads.leads, empty-nil line none) refl
       | inr some ↦
           let parts = split-last line some in
-          subst (λ (l : List (ℕ × ℕ)). length l ≤ suc more → IsWay places row link l → met places row (suc more) link ≡ length l) (sym parts.is)
-          (by-last parts.before parts.last (met-length places row more (line_of row parts.last.0).older parts.before)) room leads
+          let whole = subst (λ (l : List (ℕ × ℕ)). IsWay places row link l) parts.is leads in
+          let size : length line ≡ length parts.before + 1 = ap length parts.is ∙ length-append parts.before (parts.last ∷ []) in
+          let rest = met-length places row more (line_of row parts.last.0).older parts.before (omega (arith, room, size))
+          (way-older places row link parts.before parts.last whole) in
+          grind (
+            arith,
+            nat_tests,
+            whole.leads,
+            newest-last 0 parts.before parts.last,
+            whole.seats parts.last.0,
+            times-append parts.last.0 parts.before (parts.last ∷ []),
+            rest,
+            size,
+          )
     ]
-  where
-    by-last : (before : List (ℕ × ℕ)) (last : ℕ × ℕ)
-        → (length before ≤ more → IsWay places row (line_of row last.0).older before → met places row more (line_of row last.0).older ≡ length before)
-        → length (before ++ last ∷ []) ≤ suc more → IsWay places row link (before ++ last ∷ [])
-        → met places row (suc more) link ≡ length (before ++ last ∷ [])
-    by-last before last rest room leads =
-        let size : length (before ++ last ∷ []) ≡ length before + 1 = length-append before (last ∷ []) in
-        let here : 0 < times last.0 (before ++ last ∷ []) = omega (arith, ap one_if (number_same last.0), times-append last.0 before (last ∷ [])) in
-        let met_rest = rest (omega (arith, room, size)) (way-older places row link before last leads) in
-        rw (leads.leads, newest-last 0 before last, link-of places last.0 _ here (leads.seats last.0), met_rest, size) (omega arith)
 
 -- a way is as long as the line that it leads along
 pub way-length : (places : ℕ) (row : ℕ → ℕ) (link : ℕ) (line : List (ℕ × ℕ)) → IsWay places row link line → way places row link ≡ length line
 way-length places row link line leads =
-    let most = total-once places line (λ place. omega (arith, leads.seats place, one_if-le (nat_lt place places))) in
-    met-length places row places link line (omega (arith, most, length-total places line leads.seats)) leads
+    met-length places row places link line (length-places places line leads.seats) leads
 
 -- one more is met from the newest of a line than from its older link
 pub older-length : (places : ℕ) (row : ℕ → ℕ) (link : ℕ) (line : List (ℕ × ℕ)) → IsWay places row link line → is_empty line ≡ false
@@ -125,20 +111,15 @@ ways-store places row index number same =
     (λ at some within. grind (arith, nat_tests, same)))
 
 -- a store to the line word of a place outside a line leaves the links of the line
-abbrev pub IsSameLine : (ℕ → ℕ) → (ℕ → ℕ) → List (ℕ × ℕ) → Type 0
-IsSameLine row new line =
-    (place : ℕ) → 0 < times place line
-    → ((line_of new place).request ≡ (line_of row place).request) × ((line_of new place).older ≡ (line_of row place).older)
-
-apart-line : (row : ℕ → ℕ) (line : List (ℕ × ℕ)) (place number : ℕ) → times place line ≡ 0 → IsSameLine row (updated row (place + 1) number) line
-apart-line row line place number none other there =
-    let same = line-other row place number other (λ is. absurd (omega (arith, there, none, ap (λ (n : ℕ). times n line) is))) in
-    (ap (λ (w : LineWord). w.request) same, ap (λ (w : LineWord). w.older) same)
+apart-line : (row : ℕ → ℕ) (line : List (ℕ × ℕ)) (place number other : ℕ) → times place line ≡ 0 → 0 < times other line
+    → ((line_of (updated row (place + 1) number) other).request ≡ (line_of row other).request)
+    × ((line_of (updated row (place + 1) number) other).older ≡ (line_of row other).older)
+apart-line row line place number other none there = grind (arith, nat_tests, none, there)
 
 pub apart-way : (places : ℕ) (row : ℕ → ℕ) (link : ℕ) (line : List (ℕ × ℕ)) (place number : ℕ) → IsWay places row link line
     → times place line ≡ 0 → IsWay places (updated row (place + 1) number) link line
 apart-way places row link line place number leads none = record {
-  behind = behind-frame (line_of row) (line_of (updated row (place + 1) number)) 0 line (apart-line row line place number none) leads.behind;
+  behind = behind-frame (line_of row) (line_of (updated row (place + 1) number)) 0 line (λ other. apart-line row line place number other none) leads.behind;
   leads = leads.leads;
   seats = leads.seats;
 }
@@ -147,9 +128,7 @@ apart-way places row link line place number leads none = record {
 pub once-in : (places : ℕ) (row : ℕ → ℕ) (link : ℕ) (front rest : List (ℕ × ℕ)) (asker : ℕ × ℕ) → IsWay places row link (front ++ asker ∷ rest)
     → (times asker.0 front ≡ 0) × (times asker.0 rest ≡ 0)
 once-in places row link front rest asker leads =
-    let both : times asker.0 front + times asker.0 rest ≡ 0 =
-    omega (arith, leads.seats asker.0, one_if-le (nat_lt asker.0 places), ap one_if (number_same asker.0), times-append asker.0 front (asker ∷ rest)) in
-    (omega (arith, both), omega (arith, both))
+    grind (arith, leads.seats asker.0, one_if-le (nat_lt asker.0 places), number_same asker.0, times-append asker.0 front (asker ∷ rest))
 
 -- where a place of a line is linked to the newest of some before it, it leads along those and the rest
 pub link-way : (places : ℕ) (row : ℕ → ℕ) (link : ℕ) (front before rest : List (ℕ × ℕ)) (asker : ℕ × ℕ) (number : ℕ)
@@ -157,17 +136,17 @@ pub link-way : (places : ℕ) (row : ℕ → ℕ) (link : ℕ) (front before res
     → (line_word_of number).request ≡ (line_of row asker.0).request → (line_word_of number).older ≡ newest 0 before
     → IsWay places (updated row (asker.0 + 1) number) (newest 0 (before ++ asker ∷ rest)) (before ++ asker ∷ rest)
 link-way places row link front before rest asker number leads behind fewer request older =
-    let stands = behind-rest (line_of row) 0 front (asker ∷ rest) leads.behind in
+    let linked = behind-rest (line_of row) 0 front (asker ∷ rest) leads.behind in
     let once = once-in places row link front rest asker leads in
     let at = line-at row asker.0 number in
     record {
       behind = behind-append (line_of (updated row (asker.0 + 1) number)) 0 before (asker ∷ rest)
           (behind-frame (line_of row) (line_of (updated row (asker.0 + 1) number)) 0 before
-          (apart-line row before asker.0 number (omega (arith, fewer asker.0, once.0))) behind) (
-            ap (λ (w : LineWord). w.request) at ∙ request ∙ stands.0,
+          (λ other. apart-line row before asker.0 number other (omega (arith, fewer asker.0, once.0))) behind) (
+            ap (λ (w : LineWord). w.request) at ∙ request ∙ linked.0,
             ap (λ (w : LineWord). w.older) at ∙ older,
             behind-frame (line_of row) (line_of (updated row (asker.0 + 1) number)) (asker.0 + 1) rest
-                (apart-line row rest asker.0 number once.1) stands.2,
+                (λ other. apart-line row rest asker.0 number other once.1) linked.2,
           );
       leads = refl;
       seats = λ place. omega (arith, fewer place, leads.seats place, times-append place front (asker ∷ rest), times-append place before (asker ∷ rest));

@@ -14,8 +14,8 @@ returns-clause-for_good c = λ s commands. is_shut-run commands s
 pub returns-clause-refused : goal.returns-clause-refused
 returns-clause-refused c = tried-shut
 
-pub returns-clause-told : goal.returns-clause-told
-returns-clause-told c = registered-shut
+pub returns-clause-closed : goal.returns-clause-closed
+returns-clause-closed c = registered-shut
 
 pub returns-clause-given_back : goal.returns-clause-given_back
 returns-clause-given_back c = given_back-shut

@@ -13,7 +13,7 @@ returns-clause-each_once c = λ bound withheld events last run place. (run-pendi
 pub returns-clause-granted : goal.returns-clause-granted
 returns-clause-granted c = λ bound withheld events last run place value.
     let granted = run-granted (permit_needs bound) refl withheld events last run in
-    (granted.due place value, granted.shown place value)
+    (granted.granted place value, granted.answered place value)
 
 pub returns-clause-of_permits : goal.returns-clause-of_permits
 returns-clause-of_permits c = λ bound withheld events last run.

@@ -1,7 +1,6 @@
-use Rattle.saa_word_proofs.proofs.SoloLemmas.Alone.{rules-lawful, alone}
+use Rattle.saa_word_proofs.proofs.SoloLemmas.Alone.{rules-lawful, alone, unready}
 use Rattle.saa_word_proofs.proofs.SoloLemmas.Books.{mirrored, opened}
-use Rattle.saa_word_proofs.proofs.SoloLemmas.PollsAlone.{unready}
-use Rattle.saa_word_proofs.proofs.SoloLemmas.Waiting.{left-waiting, only-polls}
+use Rattle.saa_word_proofs.proofs.SoloLemmas.Ends.{left-waiting, only-polls}
 use Rattle.saa_word_steps.specs.Needs.{needs_of}
 use Rattle.saa_word_proofs.proofs.solo.alone.Goals as goal
 

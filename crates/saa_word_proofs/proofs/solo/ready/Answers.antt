@@ -1,6 +1,6 @@
 use Rattle.std.proofs.Common.{refl}
 use Rattle.saa_word_proofs.proofs.RefinementLemmas.Steps.{step}
-use Rattle.saa_word_proofs.proofs.SoloLemmas.Ready.{started-ready}
+use Rattle.saa_word_proofs.proofs.SoloLemmas.Registered.{started-ready}
 use Rattle.saa_word_proofs.proofs.solo.ready.Goals as goal
 
 pub returns-clause-first : goal.returns-clause-first

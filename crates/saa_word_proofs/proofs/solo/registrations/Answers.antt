@@ -1,6 +1,4 @@
-use Rattle.saa_word_proofs.proofs.SoloLemmas.Paths.{left-next}
-use Rattle.saa_word_proofs.proofs.SoloLemmas.Registered.{started-as}
-use Rattle.saa_word_proofs.proofs.SoloLemmas.Slots.{run-registered}
+use Rattle.saa_word_proofs.proofs.SoloLemmas.Registered.{left-next, started-as, run-registered}
 use Rattle.saa_word_proofs.proofs.solo.registrations.Goals as goal
 
 pub returns-clause-started : goal.returns-clause-started

@@ -8,7 +8,7 @@ pub invariant_of-self : goal.invariant_of-self
 invariant_of-self c = record {
   sound = c.leave-left.ensures.sound;
   small = c.self.invariant.small;
-  few = c.self.invariant.few;
+  bounded = c.self.invariant.bounded;
   incomplete = λ some.
       omega (arith, length-left _ _ _ _ c.leave-left.ensures.left c.leave-left.ensures.unchanged, ap (λ (s : Slots). length s.line) c.take.ensures.taken, c.self.invariant.incomplete some);
 }

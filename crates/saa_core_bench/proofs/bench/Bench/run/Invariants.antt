@@ -9,7 +9,7 @@ invariant-loop-i g l =
     let step = g.P.Primitive.step in
     let value = g.P.Primitive.value in
     record {
-      told : take l.i l.out ++ replies request step value (drop l.i l.commands) l.self ≡ replies request step value l.commands l.fn.self;
+      replied : take l.i l.out ++ replies request step value (drop l.i l.commands) l.self ≡ replies request step value l.commands l.fn.self;
       left : state_after request step value (drop l.i l.commands) l.self ≡ state_after request step value l.commands l.fn.self;
       pagers : length l.self.book ≡ length l.fn.self.book;
     }

@@ -3,12 +3,12 @@ use Rattle.saa_word_lock_free.proofs.form.Form.acquire_until.Goals as goal
 
 pub returns-in-Some-clause-acquired : goal.returns-in-Some-clause-acquired
 returns-in-Some-clause-acquired g c =
-    let Q : _ → Type 0 = λ word. (g.W.WordForm.calls word).receives_by c.ask_at_once-told.result.1 c.receipt_by-receipt.result in
+    let Q : _ → Type 0 = λ word. (g.W.WordForm.calls word).receives_by c.ask_at_once-reply.result.1 c.receipt_by-receipt.result in
     inl (
-      c.ask_at_once-told.result.1,
+      c.ask_at_once-reply.result.1,
       c.in-Some.value,
       refl,
-      (c.ask_at_once-told.ensures.asked.0, c.ask_at_once-told.ensures.asked.1, sym c.in-Some.is ∙ c.ask_at_once-told.ensures.asked.2),
+      (c.ask_at_once-reply.ensures.asked.0, c.ask_at_once-reply.ensures.asked.1, sym c.in-Some.is ∙ c.ask_at_once-reply.ensures.asked.2),
       subst Q c.word.ensures c.receipt_by-receipt.ensures.received,
     )
 
@@ -18,7 +18,7 @@ returns-clause-acquired g c =
     record {
       first = c.in_ok-borrowed.borrowed.value;
       between = c.join-borrowed.result.value;
-      told = c.await_until.ensures.0;
+      after = c.await_until.ensures.0;
       last = c.await_until.ensures.1;
       rested = g.W.WordForm.rests_here c.args.self.now.word c.in_ok-borrowed.borrowed.value c.in_ok-borrowed.ensures.out.0.1 c.in_ok-borrowed.ensures.out.1;
       registered = c.join-borrowed.ensures.registered;

@@ -4,10 +4,10 @@ use Rattle.saa_word_lock_free.proofs.form.Form.acquire_with.Goals as goal
 pub returns-in-Some-clause-answered : goal.returns-in-Some-clause-answered
 returns-in-Some-clause-answered g c =
     inl (
-      c.ask_at_once-told.result.1,
+      c.ask_at_once-reply.result.1,
       c.in-Some.value,
       refl,
-      (c.ask_at_once-told.ensures.asked.0, c.ask_at_once-told.ensures.asked.1, sym c.in-Some.is ∙ c.ask_at_once-told.ensures.asked.2),
+      (c.ask_at_once-reply.ensures.asked.0, c.ask_at_once-reply.ensures.asked.1, sym c.in-Some.is ∙ c.ask_at_once-reply.ensures.asked.2),
     )
 
 pub returns-clause-answered : goal.returns-clause-answered
@@ -17,7 +17,7 @@ returns-clause-answered g c =
       record {
         first = c.in-Ok.borrowed.value;
         between = c.join-borrowed.result.value;
-        told = c.await_answer-value.ensures.0;
+        after = c.await_answer-value.ensures.0;
         last = c.await_answer-value.ensures.0;
         rested = g.W.WordForm.rests_here c.args.self.now.word c.in-Ok.borrowed.value c.in-Ok.ensures.out.0.1 c.in-Ok.ensures.out.1;
         registered = c.join-borrowed.ensures.registered;

@@ -6,5 +6,5 @@ use Rattle.saa_word_lock_free.proofs.lock.Form+R+Word.try_share.Goals as goal
 
 pub returns : goal.returns
 returns g c =
-    let P : Lock → Type 0 = λ word. IsTriedIn word Shared c.try_share_once-told.result.0 in
-    subst P c.word.ensures (c.try_share_once-told.result.1, c.try_share_once-told.ensures)
+    let P : Lock → Type 0 = λ word. IsTriedIn word Shared c.try_share_once-reply.result.0 in
+    subst P c.word.ensures (c.try_share_once-reply.result.1, c.try_share_once-reply.ensures)

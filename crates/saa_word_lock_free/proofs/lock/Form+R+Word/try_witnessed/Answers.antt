@@ -5,5 +5,5 @@ use Rattle.saa_word_lock_free.proofs.lock.Form+R+Word.try_witnessed.Goals as goa
 
 pub returns : goal.returns
 returns g c =
-    let P : Lock → Type 0 = λ word. IsTriedWith word c.args.mode c.try_once-told.result.0 c.receipt_by-receipt.result in
-    subst P c.word-word.ensures (c.try_once-told.result.1, c.try_once-told.ensures.tried, (c.receipt_by-receipt.ensures.table, c.receipt_by-receipt.ensures.seen))
+    let P : Lock → Type 0 = λ word. IsTriedWith word c.args.mode c.try_once-reply.result.0 c.receipt_by-receipt.result in
+    subst P c.word-word.ensures (c.try_once-reply.result.1, c.try_once-reply.ensures.tried, (c.receipt_by-receipt.ensures.table, c.receipt_by-receipt.ensures.seen))

@@ -5,5 +5,5 @@ use Rattle.saa_word_lock_free.proofs.permit.FormWordRawSemaphore.try_take.Goals 
 
 pub returns : goal.returns
 returns g c = λ is.
-    let P : Bool → Type 0 = λ told. IsDone c.args.self.now.word (Try c.args.count) told in
+    let P : Bool → Type 0 = λ reply. IsDone c.args.self.now.word (Try c.args.count) reply in
     inl (subst P is c.try_acquire_many.ensures)

@@ -5,6 +5,6 @@ use Rattle.saa_word_lock_free.proofs.raw_lock.FormWordRawLock.try_take.Goals as 
 
 pub returns-in-Ok : goal.returns-in-Ok
 returns-in-Ok g c =
-    let tried = c.try_witnessed-told.ensures in
-    let Q : _ → Type 0 = λ told. IsTried c.args.self.now.word c.args.mode told tried.0 in
+    let tried = c.try_witnessed-reply.ensures in
+    let Q : _ → Type 0 = λ reply. IsTried c.args.self.now.word c.args.mode reply tried.0 in
     ∣ inl (inl (tried.0, granted_value, refl, (Ok tt, subst Q c.in-Ok.is tried.1, refl), tried.2)) ∣₁

@@ -14,9 +14,9 @@ pub returns-then-value-eq-GRANTED-clause-granted : goal.returns-then-value-eq-GR
 returns-then-value-eq-GRANTED-clause-granted g c =
     let lock = c.args.self.now.word in
     let asked = c.args.pending.now.ask in
-    let Told = Option (ℕ × Receipt) in
-    let Q : Poll (Result Told Full) → Type 0 = λ polled. IfReady polled (λ answer. IfOk answer (λ told. IfSome told (λ with_receipt.
+    let Polled = Option (ℕ × Receipt) in
+    let Q : Poll (Result Polled Full) → Type 0 = λ polled. IfReady polled (λ answer. IfOk answer (λ reply. IfSome reply (λ with_receipt.
     IsAnsweredLater (calls_of lock) asked with_receipt.0 with_receipt.1))) in
-    let is = c.in-Ready-Ok-Some.is ∙ ap (λ (answer : Result Told Full). Ready answer) (c.in-Ready-Ok-Some.field-0-is ∙ ap (λ (told : Told). Ok told) c.in-Ready-Ok-Some.field-0-0-is) in
+    let is = c.in-Ready-Ok-Some.is ∙ ap (λ (answer : Result Polled Full). Ready answer) (c.in-Ready-Ok-Some.field-0-is ∙ ap (λ (reply : Polled). Ok reply) c.in-Ready-Ok-Some.field-0-0-is) in
     later-is-turn lock asked c.args.mode c.in-Ready-Ok-Some.value c.in-Ready-Ok-Some.receipt c.requires.asked c.if-value-eq-GRANTED.true
-    (subst Q is c.advance_witnessed-told.ensures.answered)
+    (subst Q is c.advance_witnessed-reply.ensures.answered)

@@ -5,5 +5,5 @@ use Rattle.saa_word_lock_free.proofs.raw_lock.FormWordRawLockUntil.take_until.Go
 
 pub returns-then-value-eq-GRANTED-clause-taken : goal.returns-then-value-eq-GRANTED-clause-taken
 returns-then-value-eq-GRANTED-clause-taken g c =
-    wait-is-turn c.args.self.now.word c.args.mode c.in-Ok-answer.value c.in-Ok.told.1 c.if-value-eq-GRANTED.true
-    (subst (λ answer. IsAcquired c.args.self.now.word c.args.mode answer c.in-Ok.told.1) c.in-Ok-answer.is c.in-Ok.ensures.acquired)
+    wait-is-turn c.args.self.now.word c.args.mode c.in-Ok-answer.value c.in-Ok.reply.1 c.if-value-eq-GRANTED.true
+    (subst (λ answer. IsAcquired c.args.self.now.word c.args.mode answer c.in-Ok.reply.1) c.in-Ok-answer.is c.in-Ok.ensures.acquired)

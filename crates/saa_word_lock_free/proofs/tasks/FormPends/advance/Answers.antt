@@ -9,6 +9,6 @@ use Rattle.saa_word_lock_free.proofs.tasks.FormPends.advance.Goals as goal
 pub returns-in-Ready-Ok-Some-clause-answered : goal.returns-in-Ready-Ok-Some-clause-answered
 returns-in-Ready-Ok-Some-clause-answered g c =
     let calls = g.W.WordForm.calls c.args.self.now.word in
-    let Q : _ → Type 0 = λ told. IfReady told (λ answer. IfOk answer (λ told. IfSome told (λ with_receipt. IsAnsweredLater calls c.args.pending.now.ask with_receipt.0 with_receipt.1))) in
+    let Q : _ → Type 0 = λ reply. IfReady reply (λ answer. IfOk answer (λ reply. IfSome reply (λ with_receipt. IsAnsweredLater calls c.args.pending.now.ask with_receipt.0 with_receipt.1))) in
     let path = c.in-Ready-Ok-Some.is ∙ ap (λ at. Poll.Ready at) (c.in-Ready-Ok-Some.field-0-is ∙ ap (λ at. Ok at) c.in-Ready-Ok-Some.field-0-0-is) in
-    (c.in-Ready-Ok-Some._receipt, subst Q path c.advance_witnessed-told.ensures.answered)
+    (c.in-Ready-Ok-Some._receipt, subst Q path c.advance_witnessed-reply.ensures.answered)

@@ -2,7 +2,7 @@ use Rattle.std.proofs.Common.{ap, sym, subst, ◌∙◌}
 use Rattle.saa_word_steps.specs.declared.place.Next.{Next}
 use Rattle.saa_word_steps.specs.declared.place.Place.{Place}
 use Rattle.saa_word_threads.specs.Pending.{GoesOn, HasFound}
-use Rattle.saa_word_threads.specs.Told.{unless_joining}
+use Rattle.saa_word_threads.specs.Moves.{unless_joining}
 use Rattle.saa_word_threads.proofs.form.Form.seek.Goals as goal
 
 pub returns-in-AcquireLoad-clause-next : goal.returns-in-AcquireLoad-clause-next

@@ -12,7 +12,7 @@ compare_exchange-requires g c =
       (let w = c.args.self.now.words in omega arith),
       allowed-look c.args.self.now.table.shared.key c.args.self.now.rules c.args.self.now.places g.M.Mover.about g.M.Mover.place c.args.at.value g.M.Mover.me
           c.args.pending.now.me c.args.self.now.table.shared.table_id.slots c.args.seat.now.id c.args.seat.now.me (Exchange 0 c.args.old c.args.new)
-          c.args.self.now.key.0 c.args.self.now.key.1 c.args.self.now.few c.args.self.now.wide c.requires.mover next
+          c.args.self.now.key.0 c.args.self.now.key.1 c.args.self.now.bounded c.args.self.now.wide c.requires.mover next
           (λ found joins. let misses = c.requires.made found joins in rw misses refl),
     )
 

@@ -9,5 +9,5 @@ swap-requires g c = (
   rw c.cell.ensures.cell
       (allowed c.args.self.now.table.shared.key c.args.self.now.rules c.args.self.now.places g.M.Mover.about g.M.Mover.place g.M.Mover.me
       c.args.self.now.table.shared.table_id.slots c.args.seat.now.id c.args.seat.now.me (Swap c.args.index c.args.number)
-      c.args.self.now.key.0 c.args.self.now.key.1 c.args.self.now.few c.args.self.now.wide c.requires.table.1 c.requires.next),
+      c.args.self.now.key.0 c.args.self.now.key.1 c.args.self.now.bounded c.args.self.now.wide c.requires.table.1 c.requires.next),
 )

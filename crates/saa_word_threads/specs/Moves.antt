@@ -11,7 +11,7 @@ use Rattle.saa_word_steps.specs.declared.place.Registration.TheVariants.{Idle, A
 use Rattle.saa_word_steps.specs.declared.place.Stage.{Stage}
 use Rattle.saa_word_steps.specs.declared.place.Stage.TheVariants.{Quiet, Prepare, ShowLoad, ShowStore}
 use Rattle.saa_word_steps.specs.Needs.{Needs, needs_of}
-use Rattle.saa_word_steps.specs.AbstractState.{AbstractState, IsRun, OwesNothing, opening}
+use Rattle.saa_word_steps.specs.AbstractState.{AbstractState, IsRun, HasShownAll, opening}
 use Rattle.saa_word_steps.specs.declared.operation.Operation.{Operation}
 use Rattle.saa_word_steps.specs.Steps.{next_of, operation_of, started, word_at}
 use Rattle.saa_word_steps.specs.Readings.{is_idle, is_taken}
@@ -53,13 +53,13 @@ pub record Moves (needs : Needs) (withheld places : ℕ) (place : Place) (next :
   pub names : named events ≡ named_at needs place.stage found
   pub extends : Extends v events w
   pub legal : IsLegal needs withheld w.seen
-  pub shown : is_showing w.position.stage ≡ false → OwesNothing w.number legal.0
+  pub shown : is_showing w.position.stage ≡ false → HasShownAll w.number legal.0
   pub own : part_of w.number w.seen ≡ w.part
   pub ready : IsReadyNext needs places v.number (Going w.position)
   pub visits : places ≤ v.number → IsVisiting w.position.stage
 
-abbrev pub told : About → Place → ℕ → Step (Unit {0}) → Me (Unit {0}) View → ℕ → Me (Unit {0}) View → Type 0
-told about place me st before found after =
+abbrev pub moved : About → Place → ℕ → Step (Unit {0}) → Me (Unit {0}) View → ℕ → Me (Unit {0}) View → Type 0
+moved about place me st before found after =
     Moves (needs_of about.rules) about.withheld about.places place (next_of (needs_of about.rules) me place place.stage found) found before.0 after.0
     × (after.1 ≡ before.1)
 
