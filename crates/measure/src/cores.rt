@@ -1,11 +1,11 @@
 //! What a core costs whose line is held by links beside one whose line is a list, where nobody waits and where one does.
 
+use crate::listed::ListedSemaphore;
 use crate::times::{Case, Timed, nanos_since};
 use saa_core::Primitive;
 use saa_core::semaphore::SemaphoreCore;
 use saa_core::ticket::{How, Ticket};
 use std::time::{Clock, Instant};
-use test_support::listed::ListedSemaphore;
 
 // All permits of a core.
 const ALL: usize = 63;

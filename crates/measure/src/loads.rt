@@ -5,6 +5,7 @@
 use crate::alone::{Asked, By, Form, alone_nanos};
 use crate::cores::core_timed;
 use crate::lines::{Action, core_line_nanos, task_nanos};
+use crate::listed::ListedSemaphore;
 use crate::lock_free_lines::lock_free_task_nanos;
 use crate::rounds::{Rounds, passings_nanos};
 use crate::times::{Case, Figure, PASSES, Timed, figure_of};
@@ -24,7 +25,6 @@ use std::random::RandomSource;
 use std::sync::{Mutex, RwLock, Wait};
 use std::thread::Threads;
 use std::time::Clock;
-use test_support::listed::ListedSemaphore;
 
 // The room of what is measured: no less than there are threads that wait.
 const ROOM: u16 = 32;

@@ -15,6 +15,7 @@ mod alone;
 mod cores;
 mod crowds;
 mod lines;
+mod listed;
 mod loads;
 mod lock_free;
 mod lock_free_lines;

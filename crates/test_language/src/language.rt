@@ -20,9 +20,13 @@
 //! | `cancel P`, `drop_away P`, `poll P a`, `poll_for P 5ms`, `block_on P` | of a pager: cancelled, dropped by another thread, polled by the task `a`, in time, by an executor |
 //! | `f0 acquire 3`, `f0 poll a`, `f0 ended`, `f0 drop`, `f0 block_on` | a future is made, polled by the task `a`, looked at, dropped, and awaited by an executor |
 //! | `a acquire_with 3 release 3`, `f0 acquire_with release` | a future with a callback is made, and polled by the task `a`, again if it was woken; or dropped with no poll |
+//! | `f0 poll_away a` | a future is polled by the task `a` on another thread |
 //! | `a woken`, `a calm` | whether the task `a` was woken since its last poll, and a poll of it that polls nothing |
 //! | `t1 acquire 3`, `t1 ends` | a call on another thread: the next move is made once it has ended, or sleeps; and the wait for its end; a callback there only yields |
-//! | `t1 acquire looks`, `t1 acquire_for 1h joins` | the next move is made once the call looks, or has joined the queue, since it never sleeps |
+//! | `t1 acquire looks`, `t1 acquire_for 1h joins`, `t1 poll_sync 0 begins` | the next move is made once the call looks, or has joined the queue, since it never sleeps, or at once |
+//! | `crowd 48 acquire`, `crowd 48 ends`, `crowd 48 ended -> 0` | so many threads make the call, each as `t1` does, and `joins` is for calls with a callback; the wait for their ends; how many calls have ended |
+//! | `in_turn 48 release` | makes the call so often, each time waits until one more of the crowd is done, and answers how often no other one was woken |
+//! | `each 1 2 48`, `N`, `N+1` | ahead of the first line: the story is told for each of these numbers, which is `N` in it |
 //! | `semaphore 0 2 1ns sleepy` | a clock of which each reading is so much later than the last (of `0ns` it stands still), and a spin policy: waiters park at once (`sleepy`), spin at their parker (`awake`), or yield there (`yielding`), and calls look for ever before they join (`looking`, and with the last two) |
 //! | `clock 5ms`, `late`, `leap 1h`, `clock broken` | that clock is set, to a second, once it was read again, and can't be read |
 //! | `pause`, `read 100`, `rests`, `asleep 2`, `parked` | a while passes; the clock was read so often; it is hardly read; so many sleep, which is waited for; how many do |
@@ -38,6 +42,7 @@ use std::time::Duration;
 pub enum Subject {
     Story,
     Thread(usize),
+    Crowd,
     Future(usize),
     Task(usize),
 }
@@ -65,6 +70,8 @@ impl Time {
 #[derive(Clone, Copy, Debug)]
 pub struct Call<'t> {
     pub subject: Subject,
+    /// How many of the crowd make it.
+    pub crowd: usize,
     pub verb: &'t str,
     // The numbers behind it, and how many they are.
     numbers: [usize; 3],
@@ -78,12 +85,13 @@ pub struct Call<'t> {
     then_number: Option<usize>,
 }
 
-/// A move as it is written, the line that it is of, and what it must answer.
+/// A move as it is written, the line that it is of, what it must answer, and for which number its story is told.
 #[derive(Clone, Copy, Debug)]
 pub struct Move<'t> {
     pub line: &'t str,
     pub text: &'t str,
     pub wanted: Option<&'t str>,
+    pub each: usize,
     pub call: Call<'t>,
 }
 
@@ -103,7 +111,7 @@ pub struct Failed<'t> {
 impl<'t> Failed<'t> {
     /// This row, where that isn't what it says.
     pub fn unless(row: &Move<'t>, answered: Reply) -> Option<Failed<'t>> {
-        (!answered.is_wanted(row.wanted)).then_some(Failed::of(row, answered))
+        (!answered.is_wanted(row.wanted, row.each)).then_some(Failed::of(row, answered))
     }
 
     /// This row, which was answered so.
@@ -117,9 +125,10 @@ impl<'t> Failed<'t> {
     }
 }
 
-static SUBJECTS: [(&str, Subject); 8] = [
+static SUBJECTS: [(&str, Subject); 9] = [
     ("t1", Subject::Thread(0)),
     ("t2", Subject::Thread(1)),
+    ("crowd", Subject::Crowd),
     ("f0", Subject::Future(0)),
     ("f1", Subject::Future(1)),
     ("f2", Subject::Future(2)),
@@ -159,6 +168,18 @@ fn verb_until(verb: &str) -> Option<&'static str> {
     }
 }
 
+/// The number that a word is where `N` is this one: `7`, `N` or `N+1`.
+pub fn number_of(word: &str, each: usize) -> Option<usize> {
+    match word.strip_prefix('N') {
+        Some("") => Some(each),
+        Some(more) => {
+            let more = more.strip_prefix('+')?.parse::<usize>().ok()?;
+            Some(each.saturating_add(more))
+        }
+        None => word.parse::<usize>().ok(),
+    }
+}
+
 // What a word means in a table.
 fn meaning<T: Copy>(table: &[(&str, T)], word: &str) -> Option<T> {
     for (name, meaning) in table {
@@ -190,6 +211,7 @@ impl<'t> Call<'t> {
     pub fn of(verb: &'t str) -> Self {
         Call {
             subject: Subject::Story,
+            crowd: 0,
             verb,
             numbers: [0; 3],
             count: 0,
@@ -275,9 +297,9 @@ impl<'t> Call<'t> {
         self.count = self.count.saturating_add(1);
     }
 
-    // Reads one more word.
-    fn read(&mut self, word: &'t str) {
-        if let Ok(number) = word.parse::<usize>() {
+    // Reads one more word, in a story that is told for this number.
+    fn read(&mut self, word: &'t str, each: usize) {
+        if let Some(number) = number_of(word, each) {
             self.read_number(number);
         } else if let Some(subject) = meaning(&SUBJECTS, word) {
             self.read_subject(subject);
@@ -288,8 +310,11 @@ impl<'t> Call<'t> {
         }
     }
 
+    // One behind the crowd and ahead of the verb is how many they are.
     fn read_number(&mut self, number: usize) {
-        if self.then.is_empty() {
+        if self.verb.is_empty() {
+            self.crowd = number;
+        } else if self.then.is_empty() {
             self.push(number);
         } else {
             self.then_number = Some(number);
@@ -318,16 +343,16 @@ impl<'t> Call<'t> {
 }
 
 // The call that a text says.
-fn call_of(text: &str) -> Call<'_> {
+fn call_of(text: &str, each: usize) -> Call<'_> {
     let mut call = Call::of("");
     for word in text.split_whitespace() {
-        call.read(word);
+        call.read(word, each);
     }
     call
 }
 
 // The move that a part of a line is.
-fn one_move<'t>(line: &'t str, part: &'t str) -> Move<'t> {
+fn one_move<'t>(line: &'t str, part: &'t str, each: usize) -> Move<'t> {
     let (text, wanted) = match part.split_once(" -> ") {
         Some((text, wanted)) => (text, Some(wanted.trim())),
         None => (part, None),
@@ -336,25 +361,48 @@ fn one_move<'t>(line: &'t str, part: &'t str) -> Move<'t> {
         line,
         text: text.trim(),
         wanted,
-        call: call_of(text),
+        each,
+        call: call_of(text, each),
     }
 }
 
 // Adds the moves of a line.
-fn read_line<'t>(moves: &mut Vec<Move<'t>>, line: &'t str) -> Result<(), AllocError> {
+fn read_line<'t>(moves: &mut Vec<Move<'t>>, line: &'t str, each: usize) -> Result<(), AllocError> {
     for part in line.split(';') {
-        moves.push(one_move(line, part))?;
+        moves.push(one_move(line, part, each))?;
     }
     Ok(())
 }
 
 /// The moves of a story, of which the first makes its form.
 pub fn moves_of(alloc: Global, story: &str) -> Result<Vec<Move<'_>>, AllocError> {
+    moves_for(alloc, story, 0)
+}
+
+/// The same of a story that is told for this number.
+pub fn moves_for(alloc: Global, story: &str, each: usize) -> Result<Vec<Move<'_>>, AllocError> {
     let mut moves = Vec::new(alloc);
     for line in story.lines() {
-        if !line.starts_with('#') && !line.is_empty() {
-            read_line(&mut moves, line)?;
+        if !line.starts_with('#') && !line.starts_with(EACH) && !line.is_empty() {
+            read_line(&mut moves, line, each)?;
         }
     }
     Ok(moves)
+}
+
+// How the line begins that says for which numbers a story is told.
+const EACH: &str = "each ";
+
+/// The numbers for which a story is told: 0 alone where no line says them.
+pub fn numbers_of(alloc: Global, story: &str) -> Result<Vec<usize>, AllocError> {
+    let mut numbers = Vec::new(alloc);
+    for line in story.lines() {
+        for word in line.strip_prefix(EACH).unwrap_or("").split_whitespace() {
+            numbers.push(word.parse::<usize>().unwrap_or(0))?;
+        }
+    }
+    if numbers.is_empty() {
+        numbers.push(0)?;
+    }
+    Ok(numbers)
 }

@@ -1,5 +1,6 @@
 //! What a move answers, in the words of the language.
 
+use crate::language::number_of;
 use futures::task::Poll;
 use saa_core::gate::{Error as GateError, State};
 use saa_core::lock::TryLockError;
@@ -130,10 +131,10 @@ impl Reply {
         self.number
     }
 
-    /// Whether it is what a row wants: this text, or that the move was done where the row says nothing.
-    pub fn is_wanted(self, wanted: Option<&str>) -> bool {
+    /// Whether it is what a row wants, where `N` is this number: this text, or that the move was done where the row says nothing.
+    pub fn is_wanted(self, wanted: Option<&str>, each: usize) -> bool {
         match wanted {
-            Some(text) => self.is_text(text),
+            Some(text) => self.is_text(text, each),
             None => self.is("")
                 || self.is("ok")
                 || self.is("true")
@@ -143,12 +144,12 @@ impl Reply {
     }
 
     // Whether it reads so.
-    fn is_text(self, text: &str) -> bool {
+    fn is_text(self, text: &str, each: usize) -> bool {
         let Some(number) = self.number else {
             return self.word.text() == text;
         };
         let (word, digits) = text.split_once(' ').unwrap_or(("", text));
-        self.word.text() == word && digits.parse::<usize>() == Ok(number)
+        self.word.text() == word && number_of(digits, each) == Some(number)
     }
 }
 

@@ -16,6 +16,8 @@ mod chaos;
 #[cfg(test)]
 mod clock;
 #[cfg(test)]
+mod crowd_stories;
+#[cfg(test)]
 mod forms;
 #[cfg(test)]
 mod gate_stories;

@@ -9,7 +9,7 @@ use std::alloc::AllocGlobal;
 use std::io;
 use std::random::RandomSource;
 use std::sync::Wait;
-use std::time::Clock;
+use std::thread::{self, Threads};
 use test_language::language::Call;
 use test_language::reply::{Replies, Reply, ReplyWord, unknown, word};
 
@@ -217,6 +217,22 @@ where
                 word(ReplyWord::Dropped)
             }
             _ => unknown(),
+        }
+    }
+
+    /// Polls this future for a task on another thread.
+    pub(crate) fn polled_away<H: Threads + Sync>(
+        &mut self,
+        rt: &H,
+        task: &MockTask,
+        name: usize,
+    ) -> Reply
+    where
+        S: Sync,
+    {
+        match self.get(name) {
+            Some(future) => thread::join(rt, || (), || task.poll(future).reply()).1,
+            None => unknown(),
         }
     }
 

@@ -21,7 +21,7 @@ use std::random::RandomSource;
 use std::sync::Wait;
 use std::thread::{self, Threads};
 use std::time::{Clock, Instant};
-use test_language::language::{Call, Failed, Move, Subject, Time, moves_of};
+use test_language::language::{Call, Failed, Move, Time, moves_for, numbers_of};
 use test_language::reply::Replies;
 
 /// Which form of a primitive a story is told at.
@@ -76,32 +76,26 @@ fn made_of(line: &Call<'_>, at: usize) -> Made {
     }
 }
 
-// Whether another thread makes moves.
-fn has_threads(moves: &[Move<'_>]) -> bool {
-    for row in moves {
-        if matches!(row.call.subject, Subject::Thread(_)) {
-            return true;
-        }
-    }
-    false
-}
-
-// What three threads find, side by side: two others, and the story's own, which is the last.
+// What the threads of a story find, side by side: so many others, and the story's own, which is the last.
 //
 // The threads are begun for each form by itself: the borrow checker covers none that a function begins for any form.
-fn in_threads<H, F, T>(rt: &H, run: &F) -> io::Result<Option<T>>
+fn in_threads<H, F, T>(rt: &H, others: usize, run: &F) -> io::Result<Option<T>>
 where
-    H: Threads + Sync,
+    H: Threads + Sync + AllocGlobal,
     F: Fn(usize) -> io::Result<Option<T>> + Sync,
     T: Drop + Send,
     requires callable { F.IsAlwaysCallable run.now }
 {
-    let (first, (second, own)) = thread::join(
-        rt,
-        || run(0),
-        || thread::join(rt, || run(1), || run(2)),
-    );
-    Ok(own?.or(first?).or(second?))
+    let mut found = thread::map_indices(rt, rt.alloc(), others.saturating_add(1), run)?;
+    for _thread in 0..found.len() {
+        if let Some(told) = found.pop() {
+            let told = told?;
+            if told.is_some() {
+                return Ok(told);
+            }
+        }
+    }
+    Ok(None)
 }
 
 // One thread's part of a story.
@@ -125,7 +119,7 @@ where
     One::Error: Replies,
     Many::Error: Replies,
 {
-    if thread < 2 {
+    if thread < stage.others() {
         return Ok(acted(rt, clock, form, stage, moves, thread));
     }
     led(rt, clock, form, stage, moves)
@@ -175,14 +169,14 @@ where
 {
     let core = SemaphoreCoreOf::<MAX>::with_permits(rt.alloc(), permits, made.room)?;
     let form = form_of(clock, rt.alloc(), core, made.room, made.calls, made.waiters)?;
-    let stage = Stage::new(Instant::now(clock)?);
-    if has_threads(moves) {
-        in_threads(
+    let stage = Stage::new(rt.alloc(), Instant::now(clock)?, moves)?;
+    match stage.others() {
+        0 => led(rt, clock, &form, &stage, moves),
+        others => in_threads(
             rt,
+            others,
             &|thread| part_of(rt, clock, &form, &stage, moves, thread),
-        )
-    } else {
-        led(rt, clock, &form, &stage, moves)
+        ),
     }
 }
 
@@ -200,14 +194,14 @@ where
     requires narrow { MAX < 65536 }
 {
     let form = LockFree::<_, MAX>::with_permits(clock, rt.alloc(), permits, made.room)?;
-    let stage = Stage::new(Instant::now(clock)?);
-    if has_threads(moves) {
-        in_threads(
+    let stage = Stage::new(rt.alloc(), Instant::now(clock)?, moves)?;
+    match stage.others() {
+        0 => led(rt, clock, &form, &stage, moves),
+        others => in_threads(
             rt,
+            others,
             &|thread| part_of(rt, clock, &form, &stage, moves, thread),
-        )
-    } else {
-        led(rt, clock, &form, &stage, moves)
+        ),
     }
 }
 
@@ -224,14 +218,14 @@ where
     let made = made_of(line, 0);
     let core = LockCore::new(rt.alloc(), made.room)?;
     let form = form_of(clock, rt.alloc(), core, made.room, made.calls, made.waiters)?;
-    let stage = Stage::new(Instant::now(clock)?);
-    if has_threads(moves) {
-        in_threads(
+    let stage = Stage::new(rt.alloc(), Instant::now(clock)?, moves)?;
+    match stage.others() {
+        0 => led(rt, clock, &form, &stage, moves),
+        others => in_threads(
             rt,
+            others,
             &|thread| part_of(rt, clock, &form, &stage, moves, thread),
-        )
-    } else {
-        led(rt, clock, &form, &stage, moves)
+        ),
     }
 }
 
@@ -248,14 +242,14 @@ where
     let made = made_of(line, 0);
     let core = GateCore::new(rt.alloc(), made.room)?;
     let form = form_of(clock, rt.alloc(), core, made.room, NONE, made.waiters)?;
-    let stage = Stage::new(Instant::now(clock)?);
-    if has_threads(moves) {
-        in_threads(
+    let stage = Stage::new(rt.alloc(), Instant::now(clock)?, moves)?;
+    match stage.others() {
+        0 => led(rt, clock, &form, &stage, moves),
+        others => in_threads(
             rt,
+            others,
             &|thread| part_of(rt, clock, &form, &stage, moves, thread),
-        )
-    } else {
-        led(rt, clock, &form, &stage, moves)
+        ),
     }
 }
 
@@ -272,14 +266,14 @@ where
     let made = made_of(line, 1);
     let core = BarrierCore::with_count(rt.alloc(), line.number().unwrap_or(0), made.room)?;
     let form = form_of(clock, rt.alloc(), core, made.room, NONE, made.waiters)?;
-    let stage = Stage::new(Instant::now(clock)?);
-    if has_threads(moves) {
-        in_threads(
+    let stage = Stage::new(rt.alloc(), Instant::now(clock)?, moves)?;
+    match stage.others() {
+        0 => led(rt, clock, &form, &stage, moves),
+        others => in_threads(
             rt,
+            others,
             &|thread| part_of(rt, clock, &form, &stage, moves, thread),
-        )
-    } else {
-        led(rt, clock, &form, &stage, moves)
+        ),
     }
 }
 
@@ -294,14 +288,14 @@ where
     H: Wait + Clock + Threads + Sync + RandomSource + AllocGlobal,
 {
     let form = LockFreeLock::new(clock, rt.alloc(), line.room(0))?;
-    let stage = Stage::new(Instant::now(clock)?);
-    if has_threads(moves) {
-        in_threads(
+    let stage = Stage::new(rt.alloc(), Instant::now(clock)?, moves)?;
+    match stage.others() {
+        0 => led(rt, clock, &form, &stage, moves),
+        others => in_threads(
             rt,
+            others,
             &|thread| part_of(rt, clock, &form, &stage, moves, thread),
-        )
-    } else {
-        led(rt, clock, &form, &stage, moves)
+        ),
     }
 }
 
@@ -370,6 +364,28 @@ where
     }
 }
 
+// The first row of a story that is answered otherwise at this kind of form, where it is told for this number.
+fn first_row<'t, H>(
+    rt: &H,
+    kind: Kind,
+    story: &'t str,
+    each: usize,
+) -> io::Result<Option<Failed<'t>>>
+where
+    H: Wait + Clock + Threads + Sync + RandomSource + AllocGlobal,
+{
+    let mut moves = moves_for(rt.alloc(), story, each)?;
+    if kind == Kind::Until {
+        for row in &mut moves {
+            row.call = row.call.until();
+        }
+    }
+    match moves.split_first() {
+        Some((first, rows)) => at_first_line(rt, kind, &first.call, rows),
+        None => Ok(None),
+    }
+}
+
 /// The first row of these stories that is answered otherwise at this kind of form.
 pub(crate) fn first_failed<'t, H>(
     rt: &H,
@@ -380,14 +396,8 @@ where
     H: Wait + Clock + Threads + Sync + RandomSource + AllocGlobal,
 {
     for story in stories.split("\n\n") {
-        let mut moves = moves_of(rt.alloc(), story)?;
-        if kind == Kind::Until {
-            for row in &mut moves {
-                row.call = row.call.until();
-            }
-        }
-        if let Some((first, rows)) = moves.split_first() {
-            let failed = at_first_line(rt, kind, &first.call, rows)?;
+        for each in numbers_of(rt.alloc(), story)? {
+            let failed = first_row(rt, kind, story, each)?;
             if failed.is_some() {
                 return Ok(failed);
             }

@@ -125,6 +125,13 @@ where
                 self.ones.answer(&self.tasks, name, call)
             }
             "poll" | "ended" | "drop" => self.many.answer(&self.tasks, name, call),
+            "poll_away" if self.ones.has(name) => {
+                self.ones
+                    .polled_away(self.rt, self.tasks.get(call.task), name)
+            }
+            "poll_away" => self
+                .many
+                .polled_away(self.rt, self.tasks.get(call.task), name),
             "block_on" if self.ones.has(name) => self.ones.blocked(self.rt, name),
             "block_on" => self.many.blocked(self.rt, name),
             "acquire_with" | "lock_with" | "share_with" | "enter_with" | "wait_with" => {
@@ -454,7 +461,10 @@ where
     let mut player = Player::new(rt, clock, stage.start, form)?;
     for (at, row) in moves.iter().enumerate() {
         let answered = match row.call.subject {
-            Subject::Thread(thread) => stage.turn_of(rt, form, thread, at, &row.call),
+            Subject::Thread(_) | Subject::Crowd => stage.turn_of(rt, form, at, &row.call),
+            _ if matches!(row.call.verb, "in_turn" | "in_turn_awake") => Some(stage.in_turn(
+                rt, form, at, &row.call,
+            )),
             _ => Some(player.answer(&row.call)),
         };
         if let Some(answered) = answered {

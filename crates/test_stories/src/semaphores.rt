@@ -14,6 +14,7 @@ use saa_word_lock_free::semaphore::SemaphoreOf as LockFree;
 use saa_word_threads::semaphore::SemaphoreOf as Word;
 use std::sync::Wait;
 use std::sync::atomic::Ordering::SeqCst;
+use std::thread::yield_now;
 use std::time::Clock;
 use test_language::language::Call;
 use test_language::reply::{Replies, Reply, ReplyWord, number, unknown, word};
@@ -64,11 +65,21 @@ macro_rules! called_with {
     };
 }
 
-// A permit that goes, or is forgotten; the pager is registered beside it.
+// Waits until another thread's call sleeps.
+fn await_sleeper<S: Form>(form: &S) {
+    for _look in 0..u64::MAX {
+        if form.sleeps(1) {
+            return;
+        }
+        yield_now();
+    }
+}
+
+// A permit that goes, at once or once another call sleeps, or is forgotten; the pager is registered beside it.
 macro_rules! permitted {
     ($form:expr, $call:expr, $span:expr, $pager:expr) => {{
         let told = match ($call.verb, $span) {
-            ("take_permit", _) => $form.acquire_permit().map(Some),
+            ("take_permit" | "hold_permit", _) => $form.acquire_permit().map(Some),
             ("permit_for", Span::For(long)) => $form.acquire_permit_for(long),
             ("permit_until", Span::Until(end)) => $form.acquire_permit_until(end),
             _ => Ok($form.try_acquire_permit()),
@@ -76,8 +87,12 @@ macro_rules! permitted {
         match told {
             Ok(Some(permit)) => {
                 let available = $form.available_permits(SeqCst);
-                if $call.verb == "pass_permit" {
-                    let _told = $form.register_pager($pager, 1, true);
+                match $call.verb {
+                    "pass_permit" => {
+                        let _told = $form.register_pager($pager, 1, true);
+                    }
+                    "hold_permit" => await_sleeper($form),
+                    _ => {}
                 }
                 if $call.then().verb == "forget" {
                     permit.forget();

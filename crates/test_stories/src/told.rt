@@ -2,7 +2,10 @@
 
 use crate::played::Kind::{self, LockFree, Threaded, Until};
 use crate::played::first_failed;
-use crate::{barrier_stories, gate_stories, lock_stories, semaphore_stories, timed_stories};
+use crate::{
+    barrier_stories, crowd_stories, gate_stories, lock_stories, semaphore_stories, timed_stories,
+};
+use saa_sync::semaphore::{Semaphore, SemaphoreOf};
 use std::alloc::AllocGlobal;
 use std::io;
 use std::random::RandomSource;
@@ -16,20 +19,22 @@ use test_language::reply::{ReplyWord, word};
 use test_language::worked;
 
 // At both forms.
-static OF_SEMAPHORES: [&str; 6] = [
+static OF_SEMAPHORES: [&str; 7] = [
     semaphore_stories::ANSWERS,
     semaphore_stories::TOO_MANY,
     semaphore_stories::BOUNDS,
     worked::SEMAPHORES,
     semaphore_stories::ORDER,
     semaphore_stories::PLACES,
+    crowd_stories::PERMIT_AWAY,
 ];
 
-static OF_LOCKS: [&str; 4] = [
+static OF_LOCKS: [&str; 5] = [
     lock_stories::ANSWERS,
     worked::LOCKS,
     lock_stories::ORDER,
     lock_stories::PLACES,
+    crowd_stories::TURN_AWAY,
 ];
 
 // At the threaded one, which alone has a shut, gates and barriers.
@@ -45,6 +50,15 @@ static OF_THE_THREADED: [&str; 11] = [
     barrier_stories::CALLBACKS,
     worked::BARRIERS,
     timed_stories::CROWD,
+];
+
+// At the threaded one, which alone says how many sleep.
+static OF_CROWDS: [&str; 5] = [
+    crowd_stories::IN_BETWEEN,
+    crowd_stories::PASSINGS,
+    crowd_stories::PASSING_AWAY,
+    crowd_stories::TURNS,
+    crowd_stories::ARRIVALS,
 ];
 
 // At the lock-free one, which alone has receipts.
@@ -94,6 +108,34 @@ fn locks_answer(rt: HostRuntime) -> Result<(), Fail> {
 #[test]
 fn threaded_forms_answer(rt: HostRuntime) -> Result<(), Fail> {
     same!(rt; first_other(&rt, &[Threaded], &OF_THE_THREADED)?, None);
+    Ok(())
+}
+
+#[test]
+fn crowds_that_sleep_for_permits_wake(rt: HostRuntime) -> Result<(), Fail> {
+    same!(rt; first_other(&rt, &[Threaded], &[crowd_stories::PERMITS])?, None);
+    Ok(())
+}
+
+#[test]
+fn crowds_that_sleep_wake(rt: HostRuntime) -> Result<(), Fail> {
+    same!(rt; first_other(&rt, &[Threaded], &OF_CROWDS)?, None);
+    Ok(())
+}
+
+// The bounds that the stories come up to.
+fn bounds<R: Wait>(_rt: &R) -> [usize; 4] {
+    [
+        Semaphore::<&R>::MAX_PERMITS,
+        SemaphoreOf::<&R, 1>::MAX_PERMITS,
+        SemaphoreOf::<&R, 1_000>::MAX_PERMITS,
+        SemaphoreOf::<&R, 65_535>::MAX_PERMITS,
+    ]
+}
+
+#[test]
+fn each_bound_is_kept(rt: HostRuntime) -> Result<(), Fail> {
+    same!(rt; bounds(&rt), [63, 1, 1_000, 65_535]);
     Ok(())
 }
 

@@ -1,15 +1,16 @@
 //! Wakers go out with the mutex free: a wake lasts until another thread has locked the mutex many times.
 
-use crate::polled;
-use crate::wakers::answer_untold;
-use crate::wakers::wakers::Told::{Moved, Nothing, Passage, Passed};
+use crate::tasks::polled;
+use crate::wakers::Told::{Moved, Nothing, Passage, Passed};
 use futures::Future;
 use futures::task::{Doorbell, Poll as Polled, Solo};
 use futures::test::MockTask;
+use saa_core::Primitive;
 use saa_core::ticket::Full;
 use saa_sync::future::Enter;
 use saa_sync::gate::{Error, Gate, State};
 use saa_sync::pager::Pager;
+use saa_sync::testing::call_untold;
 use std::alloc::AllocGlobal;
 use std::fs::Files;
 use std::io::{PipeReader, PipeWriter, Read, Write};
@@ -169,6 +170,14 @@ fn bring_beside<'s, H: Threads + Wait + RandomSource + AllocGlobal + Sync, R: Wa
             bring(rt, gate, future, pager, out)
         },
         || lock_then_read(rt, gate, &has_begun, reader),
+    )
+}
+
+// Answers the waiter, and takes the wake that is pending for that, but wakes no task: the waker stays where it is.
+fn answer_untold<R: Wait + Drop>(gate: &Gate<R>) -> bool {
+    call_untold(
+        gate,
+        |core| core.permit() == Ok(1) && core.next_answered().is_some(),
     )
 }
 

@@ -1,7 +1,7 @@
 //! Tasks and a thread that share a lock, all at the same time, and have it alone in turn. They meet at a barrier, where an executor that
 //! sleeps is woken from the thread of the last.
 
-use crate::awaited;
+use crate::tasks::awaited;
 use saa_sync::barrier::Barrier;
 use saa_sync::lock::{Lock, Mode};
 use saa_sync::pager::Pager;

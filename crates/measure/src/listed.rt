@@ -1,6 +1,6 @@
 //! A semaphore whose queue is a list, in which a waiter that leaves is searched for: the plain slow one beside the core.
 //!
-//! It is no product: `measure` times it beside the core, which keeps its queue by links. Asking and settling are the core's own (`granting` of
+//! It is no product: it is timed beside the core, which keeps its queue by links. Asking and settling are the core's own (`granting` of
 //! `saa_core`): what differs is the queue.
 
 ghost use Rattle.std.specs.Prelude.{◌≡◌, ◌≤◌, false, if◌then◌else◌, nat_lt};

@@ -1,11 +1,12 @@
-//! Facts that no story tells, since they speak of threads beside tasks, or of many tasks, and the test that each is so.
+//! Facts of futures that no story tells, since they speak of threads beside tasks, or of many tasks, and the test that each is so.
 //!
 //! A test's text is proved anew for each call that it makes. So calls are in small functions that borrow what they use, and a test
 //! goes through a table.
 
-use crate::wakers::wakers::Told::{Moved, Nothing, Passage, Passed};
-use crate::wakers::wakers::{Out, Told, is_out};
-use crate::{lines, polled, sharing};
+use crate::sharing;
+use crate::tasks::polled;
+use crate::wakers::Told::{Moved, Nothing, Passage, Passed};
+use crate::wakers::{Out, Told, is_out};
 use futures::test::MockTask;
 use saa_core::semaphore::SemaphoreCore;
 use saa_sync::future::{PollOn, Progress};
@@ -25,7 +26,6 @@ enum Fact {
     OnACore,
     // One future of a pager waits until its answer.
     PastItsAnswer,
-    Between,
     Sharing,
     // The waker of a slow task goes out with the lock free, in a room of this size, which tells this.
     Wakes(u16, Out, Told),
@@ -33,15 +33,11 @@ enum Fact {
 
 const PASSED: State = State::Controlled;
 
-static FACTS: [(&str, Fact); 10] = [
+static FACTS: [(&str, Fact); 9] = [
     ("a future can be polled on a core", Fact::OnACore),
     (
         "a pager's future is pending past its answer",
         Fact::PastItsAnswer,
-    ),
-    (
-        "a task between two sleepers is served between them",
-        Fact::Between,
     ),
     (
         "tasks and threads share a lock, meet, and each has it alone in turn",
@@ -141,7 +137,6 @@ fn is_so<H: Files + Threads + Wait + RandomSource + AllocGlobal + Sync>(
     match fact {
         Fact::OnACore => Ok(on_a_core(rt)?),
         Fact::PastItsAnswer => Ok(past_its_answer(rt, one)?),
-        Fact::Between => lines::between(rt, one),
         Fact::Sharing => sharing::together(rt),
         Fact::Wakes(room, out, told) => is_out(rt, one, room, (out, told)),
     }

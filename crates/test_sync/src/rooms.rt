@@ -2,7 +2,7 @@
 //! call is told that the room is full. At a semaphore, since places and parkers are those of every form; small rooms of the others
 //! are filled by their stories.
 
-use crate::polled;
+use crate::tasks::polled;
 use futures::test::MockTask;
 use saa_core::ticket::Full;
 use saa_sync::future::AcquireMany;
