@@ -2,8 +2,6 @@
 #![tactic(auto)]
 
 mod buffers;
-#[cfg(test)]
-mod tests;
 mod work;
 
 use crate::work::share;

@@ -13,7 +13,7 @@ use std::thread::{self, Threads, yield_now};
 const TURNS: u16 = 50;
 
 /// What was seen of a pool.
-#[derive(Clone, Copy, PartialEq)]
+#[derive(Clone, Copy)]
 pub struct Seen {
     /// How many turns the workers had.
     pub turns: u64,

@@ -5,8 +5,6 @@
 
 mod ring;
 mod spread;
-#[cfg(test)]
-mod tests;
 
 use crate::spread::compare;
 use std::{env, io};
