@@ -155,7 +155,7 @@ impl Form {
         Answer::Bool(true)
     }
 
-    // Goes on with a call whose place has just found this number at this stage: it looks on while its spins last, and then goes step by step.
+    // Goes on with a call whose place has just found this number at this stage: it looks on while its spins last, and then joins where it must.
     fn follow<R: Wait, W: Watch>(
         &self,
         rt: &R,

@@ -26,7 +26,7 @@ use std::snapshot::Snapshot;
 use std::sync::Wait;
 
 impl Form {
-    // Goes on with an ask to its end: it looks for as long as its spins last and never joins meanwhile, and then goes step by step.
+    // Goes on with an ask to its end: it looks for as long as its spins last and never joins meanwhile, and then joins where it must.
     pub(crate) fn look_on<R: Wait, W: Watch>(
         &self,
         rt: &R,
@@ -53,7 +53,7 @@ impl Form {
                 Next::Done(behind, answer) => return (behind, answer),
             }
         }
-        self.go_on(rt, watch, seat, place, pending)
+        self.join_on(rt, watch, seat, place, pending)
     }
 
     // Whether a look may let a place at this stage get on. An exchange that must fail would take the main word's cache line.

@@ -1,10 +1,11 @@
 //! What a call that goes straight reads off the main word, and what it writes there.
 //!
-//! Held to `specs/Straight.antt`: which words grant an ask by one exchange, and which let something be given back by one.
+//! Held to `specs/Straight.antt`: which words grant an ask by one exchange, which make it join the
+//! waiters, and which let something be given back by one.
 
 ghost use Rattle.std.specs.Prelude.{◌≡◌, ◌==◌, ◌||◌, false, not};
 ghost use Rattle.saa_word_threads.specs.Pending.{needs};
-ghost use Rattle.saa_word_threads.specs.Straight.{grants_at, lowers_to, takes_flag};
+ghost use Rattle.saa_word_threads.specs.Straight.{grants_at, joins_at, lowers_to, takes_flag};
 
 use crate::form::Form;
 use saa_core_words::word::Word;
@@ -19,6 +20,13 @@ impl Form {
             && seen.tail == 0
             && self.rules.fits(seen.count, ask.request)
             && self.rules.takes(ask.request) != 0
+    }
+
+    // Whether a place that waits must join the waiters by a word: it isn't poisoned, and there is a waiter or what is asked for doesn't fit.
+    pub(crate) fn must_join(&self, seen: Word, request: u16) -> bool
+        ensures { result ≡ joins_at (needs self.now) seen request }
+    {
+        !seen.is_poisoned && (seen.tail != 0 || !self.rules.fits(seen.count, request))
     }
 
     // The count of a word once a request is given back by an exchange: where it isn't poisoned or shut, and so much is taken. At a shut semaphore a

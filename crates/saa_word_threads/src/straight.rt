@@ -156,7 +156,7 @@ impl Form {
             place.position.registration = Registration::Idle;
             return value == GRANTED;
         }
-        granted(self.call(rt, watch, place, WordCall::Poll))
+        granted(self.take_awaited(rt, watch, place))
     }
 
     // Gives back what a request took, by one exchange, and settles the queue where there are waiters. Whether the answer is yes.

@@ -48,7 +48,7 @@ impl Form {
         ensures same { IsSamePlace place.old place.new }
         ensures called { IsCalledAt self.now Poll place.old result place.new }
     {
-        let answer = self.call(rt, watch, place, WordCall::Poll);
+        let answer = self.take_awaited(rt, watch, place);
         self.forget_answered(place);
         answer
     }

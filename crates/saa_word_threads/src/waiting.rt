@@ -44,7 +44,13 @@ impl Form {
     }
 
     // Waits until the answer word of a place may have changed, or the time is up.
-    fn await_answer<R: Wait, W: Watch, L: Limit>(&self, rt: &R, watch: &W, me: u16, limit: &L)
+    pub(crate) fn await_answer<R: Wait, W: Watch, L: Limit>(
+        &self,
+        rt: &R,
+        watch: &W,
+        me: u16,
+        limit: &L,
+    )
         requires { me < self.now.places }
     {
         let cell = self.cell(usize::from(self.places) + usize::from(me) + 1);

@@ -20,7 +20,7 @@ pub enum Moment {
     Takes,
     /// The flag's holder is about to publish what a walk has granted, by an exchange or an addition.
     Publishes,
-    /// A step has found that another place must move first.
+    /// A step, or a look at the place's own answer word, has found that another place must move first.
     IsBlocked,
     /// A waiter is about to look at its answer word.
     LooksForAnswer,
