@@ -15,3 +15,4 @@ pub mod Inner
 pub mod Visiting
 pub mod PendingLemmas
 pub mod Walking
+pub mod Polling
