@@ -1,5 +1,5 @@
-//! A semaphore and a lock are closed: with all their places, of which some waited, and on receipts of what places and visitors had seen before their last
-//! calls. The words are those of what was held.
+//! A semaphore and a lock are closed: with all their places, of which some waited, by a visitor, and on receipts of what places and visitors had seen before
+//! their last calls. The words are those of what was held.
 
 ghost use Rattle.std.specs.Prelude.{All};
 ghost use Rattle.saa_word_threads.specs.Locks.{IsDealtBy as IsDealtByLock, IsLeftOf as IsLeftOfLock};
@@ -48,7 +48,7 @@ fn semaphore_story<R: Wait + AllocGlobal>(rt: &R) -> Result<([bool; 3], u64), Al
     let (Some(mut second), Some(mut first)) = (places.pop(), places.pop()) else {
         unreachable!()
     };
-    let told = [
+    let answers = [
         semaphore.try_acquire_many(rt, &mut first, 50),
         semaphore.register(rt, &mut second, 20),
         semaphore.release_many(rt, &mut first, 30),
@@ -56,7 +56,7 @@ fn semaphore_story<R: Wait + AllocGlobal>(rt: &R) -> Result<([bool; 3], u64), Al
     let mut lefts = Vec::new(rt.alloc());
     leave(rt, &semaphore, second, &mut lefts)?;
     leave(rt, &semaphore, first, &mut lefts)?;
-    Ok((told, semaphore.close_all(lefts).main()))
+    Ok((answers, semaphore.close_all(lefts).main()))
 }
 
 // A place waits for a share while another one has the lock, and is granted it. Whether each call is made, and the main word.
@@ -65,7 +65,7 @@ fn lock_story<R: Wait + AllocGlobal>(rt: &R) -> Result<([bool; 4], u64), AllocEr
     let (Some(mut second), Some(mut first)) = (places.pop(), places.pop()) else {
         unreachable!()
     };
-    let told = [
+    let answers = [
         lock.try_lock(rt, &mut first).is_ok(),
         lock.register(rt, &mut second, Mode::Shared),
         lock.release_lock(rt, &mut first),
@@ -74,10 +74,10 @@ fn lock_story<R: Wait + AllocGlobal>(rt: &R) -> Result<([bool; 4], u64), AllocEr
     let mut lefts = Vec::new(rt.alloc());
     leave_lock(rt, &lock, first, &mut lefts)?;
     leave_lock(rt, &lock, second, &mut lefts)?;
-    Ok((told, lock.close_all(lefts).main()))
+    Ok((answers, lock.close_all(lefts).main()))
 }
 
-// A place takes 40 of 63 permits and gives a receipt, then gives back 30; a visitor takes 9, and gives one too. What they are told, and the main word.
+// A place takes 40 of 63 permits and gives a receipt, then gives back 30; a visitor takes 9, and gives one too. What they are answered, and the main word.
 fn semaphore_receipts<R: Wait + AllocGlobal>(rt: &R) -> Result<([bool; 3], u64), AllocError> {
     let (semaphore, mut places) = Semaphore::new(rt.alloc(), 0, 1)?;
     let Some(mut place) = places.pop() else {
@@ -96,8 +96,8 @@ fn semaphore_receipts<R: Wait + AllocGlobal>(rt: &R) -> Result<([bool; 3], u64),
     ))
 }
 
-// A place has a share, and gives a receipt; a visitor finds the lock taken, and gives one, to which the first is joined. What they are told, and the main
-// word.
+// A place has a share, and gives a receipt; a visitor finds the lock taken, and gives one, to which the first is joined. What they are answered, and the
+// main word.
 fn lock_receipts<R: Wait + AllocGlobal>(rt: &R) -> Result<([bool; 2], u64), AllocError> {
     let (lock, mut places) = Lock::new(rt.alloc(), 1)?;
     let Some(mut place) = places.pop() else {
@@ -112,8 +112,23 @@ fn lock_receipts<R: Wait + AllocGlobal>(rt: &R) -> Result<([bool; 2], u64), Allo
     Ok(([taken, found.is_err()], lock.close_on(receipt).main()))
 }
 
+// Calls by one visitor, which is the witness as the semaphore is closed: what they answer, and the main word then.
+fn visitor_story<R: Wait + AllocGlobal>(rt: &R) -> Result<([bool; 4], u64), AllocError> {
+    let (semaphore, _places) = Semaphore::new(rt.alloc(), 5, 0)?;
+    let mut visitor = semaphore.visit();
+    let answers = [
+        semaphore.try_acquire_many_by(rt, &mut visitor, 50),
+        semaphore.try_acquire_many_by(rt, &mut visitor, 9),
+        semaphore.release_many_by(rt, &mut visitor, 30),
+        semaphore.try_acquire_many_by(rt, &mut visitor, 9),
+    ];
+    Ok((answers, semaphore.close_by(visitor).main()))
+}
+
 #[test]
 fn closes_with_all_places_and_on_receipts(rt: HostRuntime) {
+    // 5 are withheld, and 50, less 30, and 9 are out.
+    same!(rt; visitor_story(&rt).ok(), Some(([true, false, true, true], 34)));
     // 5 are withheld, and 20 are out.
     same!(rt; semaphore_story(&rt).ok(), Some(([true; 3], 25)));
     // One share is out.
