@@ -1,4 +1,5 @@
-//! Guards of the word's lock in stories: what they show and write, whom they keep out, and that a call for one waits in the queue.
+//! Guards of the word's lock: what they show and write, whom they keep out, and that a call for one waits in the queue. The stories are those of the
+//! reader-writer lock: a mutex takes its turns by the same calls as a writer.
 //!
 //! That a guard is made only where its turn was granted, and that its drop makes the release, is proved (`saa_word_forms`).
 
@@ -7,49 +8,15 @@ use saa_word_forms::Guard;
 use saa_word_forms::mutex::{Mutex, MutexWorker};
 use saa_word_forms::rw_lock::{RwLock, RwLockWorker, RwLockWriteGuard};
 use saa_word_threads::lock::Lock;
-use std::alloc::{AllocError, Global};
+use std::alloc::{AllocError, AllocGlobal, Global};
 use std::sync::Wait;
 use test_asserts::same;
 use test_language::language::Call;
 use test_language::reply::{Reply, ReplyWord, number, unknown, word};
 
-// What a guard shows.
-fn shown(value: u64) -> Reply {
-    number(usize::try_from(value).unwrap_or(0))
-}
-
 // What a call writes into a value that is this.
 fn written(call: &Call<'_>, value: u64) -> u64 {
     call.number().map_or(value, |number| number as u64)
-}
-
-impl<R: Wait> Caller<R, Lock> for MutexWorker<'_, u64> {
-    fn make(&mut self, at: &At<'_, R, Lock>, call: &Call<'_>) -> Reply {
-        let rt = at.scene.rt;
-        match call.verb {
-            "keep_guard" => {
-                let mut guard = self.lock(rt);
-                let found = *guard;
-                *guard = written(call, found);
-                at.scene.hold(at.place);
-                drop(guard);
-                shown(found)
-            }
-            "try_guard" => match self.try_lock(rt) {
-                Some(guard) => shown(*guard),
-                None => word(ReplyWord::None),
-            },
-            "unlock_fair" => {
-                Guard::unlock_fair(self.lock(rt));
-                word(ReplyWord::Done)
-            }
-            _ => unknown(),
-        }
-    }
-
-    fn leave(self, rt: &R) {
-        let _left = MutexWorker::leave(self, rt);
-    }
 }
 
 // Takes the lock to write, and keeps it; or only to read, once it has written.
@@ -69,7 +36,7 @@ fn keep_written<R: Wait>(
         at.scene.hold(at.place);
         drop(writer);
     }
-    shown(found)
+    number(found as usize)
 }
 
 impl<R: Wait> Caller<R, Lock> for RwLockWorker<'_, u64> {
@@ -80,15 +47,15 @@ impl<R: Wait> Caller<R, Lock> for RwLockWorker<'_, u64> {
             "keep_read" => {
                 let reader = self.read(rt);
                 at.scene.hold(at.place);
-                shown(*reader)
+                number(*reader as usize)
             }
-            "read" => shown(*self.read(rt)),
+            "read" => number(*self.read(rt) as usize),
             "try_read" => match self.try_read(rt) {
-                Some(reader) => shown(*reader),
+                Some(reader) => number(*reader as usize),
                 None => word(ReplyWord::None),
             },
             "try_write" => match self.try_write(rt) {
-                Some(writer) => shown(*writer),
+                Some(writer) => number(*writer as usize),
                 None => word(ReplyWord::None),
             },
             _ => unknown(),
@@ -98,6 +65,33 @@ impl<R: Wait> Caller<R, Lock> for RwLockWorker<'_, u64> {
     fn leave(self, rt: &R) {
         let _left = RwLockWorker::leave(self, rt);
     }
+}
+
+// The first worker of a mutex writes 6: whether the second is refused beside it, and not after.
+fn write_beside<R: Wait>(
+    rt: &R,
+    first: &mut MutexWorker<'_, u64>,
+    second: &mut MutexWorker<'_, u64>,
+) -> [bool; 2] {
+    let mut guard = first.lock(rt);
+    *guard = 6;
+    let is_refused = second.try_lock(rt).is_none();
+    Guard::unlock_fair(guard);
+    [is_refused, second.try_lock(rt).is_some()]
+}
+
+// The same at a new mutex, and its value and its main word in the end.
+fn at_mutex<R: Wait + AllocGlobal>(rt: &R) -> Result<([bool; 2], [u64; 2]), AllocError> {
+    let (mutex, mut places) = Mutex::new(rt.alloc(), 5u64, 2)?;
+    let (Some(second), Some(first)) = (places.pop(), places.pop()) else {
+        unreachable!()
+    };
+    let (mut first, mut second) = (mutex.worker(first), mutex.worker(second));
+    let answers = write_beside(rt, &mut first, &mut second);
+    drop(second);
+    let left = first.leave(rt);
+    let (value, words) = mutex.close(left);
+    Ok((answers, [value, words.main()]))
 }
 
 // What is behind a mutex and a reader-writer lock that no guard holds, once it was written.
@@ -110,6 +104,7 @@ fn unowned(alloc: Global) -> Result<[u64; 2], AllocError> {
 }
 
 #[test]
-fn a_value_that_no_guard_holds_is_written(rt: HostRuntime) {
+fn a_value_is_written_by_one_at_a_time(rt: HostRuntime) {
+    same!(rt; at_mutex(&rt).ok(), Some(([true, true], [6, 0])));
     same!(rt; unowned(rt.alloc()).ok(), Some([9, 9]));
 }

@@ -3,7 +3,7 @@
 ghost use Rattle.std.specs.Prelude.{All, IfSome};
 ghost use Rattle.saa_word_threads.specs.Locks.{IsDealtBy};
 
-use crate::scene::{At, Caller, Form, Scene};
+use crate::scene::{At, Caller, Form, Scene, narrow};
 use crate::turns::mode_of;
 use futures::Future;
 use futures::task::{Context, Poll};
@@ -69,12 +69,12 @@ impl Form for Lock {
         }
     }
 
-    fn is_marked(&self, place: u16) -> bool {
-        is_parked(self, place)
+    fn is_marked(&self, place: usize) -> bool {
+        is_parked(self, narrow(place))
     }
 
-    fn is_answered(&self, place: u16) -> Option<bool> {
-        Some(is_answered(self, place))
+    fn is_answered(&self, place: usize) -> Option<bool> {
+        Some(is_answered(self, narrow(place)))
     }
 
     fn let_all_go<R: Wait>(&self, rt: &R) {
@@ -83,22 +83,6 @@ impl Form for Lock {
         }
         let _was_free = self.try_lock_once(rt);
         let _was_owned = self.poison_lock_once(rt);
-    }
-}
-
-// Makes a call of a place that only reads, or makes the lock free.
-fn read<R: Wait>(rt: &R, lock: &Lock, place: &mut Place, verb: &str) -> Reply
-    requires { IsDealtBy lock.now place.old }
-    ensures { IsDealtBy lock.now place.new }
-{
-    match verb {
-        "is_free" => lock.is_free(place).reply(),
-        "is_locked" => lock.is_locked(place).reply(),
-        "is_shared" => lock.is_shared(place).reply(),
-        "is_poisoned" => lock.is_poisoned(place).reply(),
-        "poison" => lock.poison_lock(rt, place).reply(),
-        "clear" => lock.clear_poison(rt, place).reply(),
-        _ => unknown(),
     }
 }
 
@@ -122,12 +106,18 @@ fn make<R: Wait>(rt: &R, lock: &Lock, place: &mut Place, call: &Call<'_>) -> Rep
             lock.cancel(rt, place);
             word(ReplyWord::Done)
         }
-        other => read(rt, lock, place, other),
+        "is_free" => lock.is_free(place).reply(),
+        "is_locked" => lock.is_locked(place).reply(),
+        "is_shared" => lock.is_shared(place).reply(),
+        "is_poisoned" => lock.is_poisoned(place).reply(),
+        "poison" => lock.poison_lock(rt, place).reply(),
+        "clear" => lock.clear_poison(rt, place).reply(),
+        _ => unknown(),
     }
 }
 
-// Makes a call beside a watch.
-fn make_watched<R: Wait>(
+// Makes a call that is watched, or may be timed.
+fn make_at<R: Wait + Clock>(
     at: &At<'_, R, Lock>,
     lock: &Lock,
     place: &mut Place,
@@ -138,58 +128,27 @@ fn make_watched<R: Wait>(
 {
     let rt = at.scene.rt;
     let spin_policy = at.scene.spin_policy();
-    match call.verb {
-        "watched_try_share" => try_share_watched(lock, rt, at, place).reply(),
-        "watched_release_share" => release_share_watched(lock, rt, at, place).reply(),
-        "watched_register" => {
+    match (call.verb, call.time) {
+        ("watched_try_share", _) => try_share_watched(lock, rt, at, place).reply(),
+        ("watched_release_share", _) => release_share_watched(lock, rt, at, place).reply(),
+        ("watched_register", _) => {
             register_with_policy(lock, rt, at, place, call.mode, spin_policy).reply()
         }
-        "watched_wait" => wait_with_policy(lock, rt, at, place, call.mode, spin_policy).reply(),
-        "poll_within" => {
+        ("watched_wait", _) => {
+            wait_with_policy(lock, rt, at, place, call.mode, spin_policy).reply()
+        }
+        ("poll_within", _) => {
             let limit = Asked {
                 left: AtomicUsize::new(call.number().unwrap_or(0)),
             };
             poll_within(lock, rt, at, place, &limit).reply()
         }
-        _ => make(rt, lock, place, call),
-    }
-}
-
-// Makes a call that may be timed.
-fn make_timed<R: Wait + Clock>(
-    at: &At<'_, R, Lock>,
-    lock: &Lock,
-    place: &mut Place,
-    call: &Call<'_>,
-) -> Reply
-    requires { IsDealtBy lock.now place.old }
-    ensures { IsDealtBy lock.now place.new }
-{
-    let rt = at.scene.rt;
-    match (call.verb, call.time) {
         ("poll_for", Time::Lasts(long)) => lock.poll_for(rt, place, long).reply(),
-        ("poll_until", Time::Lasts(long)) => match Instant::now(rt) {
-            Ok(now) => {
-                let end = now.checked_add(long).unwrap_or(now);
-                lock.poll_until(rt, place, end).reply()
-            }
+        ("poll_now", _) => match Instant::now(rt) {
+            Ok(now) => lock.poll_until(rt, place, now).reply(),
             Err(_unread) => unknown(),
         },
-        _ => make_watched(at, lock, place, call),
-    }
-}
-
-impl<'l, R> Owner<'l, R> {
-    /// The place of this number, which this lock dealt.
-    pub fn new(lock: &'l Lock, scene: &'l Scene<'l, R, Lock>, number: usize, place: Place) -> Self
-        requires { IsDealtBy lock.now place }
-    {
-        Owner {
-            lock,
-            scene,
-            number,
-            place,
-        }
+        _ => make(rt, lock, place, call),
     }
 }
 
@@ -215,7 +174,7 @@ impl<R: Wait + Clock> Caller<R, Lock> for Owner<'_, R> {
             call.verb = "register";
             call.mode = mode_of(self.number);
         }
-        make_timed(at, self.lock, &mut self.place, &call)
+        make_at(at, self.lock, &mut self.place, &call)
     }
 
     fn leave(self, rt: &R) {
@@ -254,7 +213,12 @@ pub fn owners_of<'l, R>(
     for _place in 0..count {
         if let Some(place) = last_of(lock, &mut places) {
             number = number.saturating_sub(1);
-            owners.push(Owner::new(lock, scene, number, place))?;
+            owners.push(Owner {
+                lock,
+                scene,
+                number,
+                place,
+            })?;
         }
     }
     Ok(owners)

@@ -6,10 +6,10 @@
 //!
 //! | Words | Mean |
 //! |---|---|
-//! | `semaphore 63 2`, `lock 2`, `mutex`, `rwlock` | a semaphore of which so many permits are withheld, with places; a lock; both others have two places, and the value 5 |
+//! | `semaphore 63 2`, `lock 2`, `rwlock` | a semaphore of which so many permits are withheld, with places; a lock; a reader-writer lock with two places, of the value 5 |
 //! | `register 5`, `register shared`, `register_each` | a registration, that of the lock in a mode, or in the mode whose turn it is; a crowd makes them one after another |
 //! | `watched_release 5`, `watched_acquire`, .. | the call beside a watch, with the spin policy that `spins 12 3` (looks and yields) sets |
-//! | `poll_within 502`, `poll_task a` | a poll whose limit is up once it was asked so often, and one for a task |
+//! | `poll_for 1h`, `poll_now`, `poll_within 502`, `poll_task a` | a poll by a duration, until now, with a limit that is up once it was asked so often, and for a task |
 //! | `p1 looks`, `rests`, `parks`, .. | how often a watched call of the place did so ([`crate::tally`]); `in_order`: rests grew, and came before yields |
 //! | `p1 marked`, `p1 deferred`, `crowd 24 ended` | its mark is set; it was blocked, and yielded each time, 100 times at least; how many have ended their calls |
 //! | `at_looks 3 pass`, `at_takes 1 try_lock` | at that moment of a watched call, the so manieth or each (0), a visitor makes a call; `refused` says how often in vain |
@@ -17,7 +17,7 @@
 //! | `faults` | how often something was otherwise at a moment than it has to be, or at a turn inside the lock |
 //! | `crowd 4 turns 2000 permits` | turns of a kind ([`crate::turns`]): how many were right |
 //! | `in_turn 24 release 1` | makes the call so often, of which each answers so many of the crowd: how often these ended, and no others |
-//! | `p0 keep_guard 6`, `p1 holds` | takes a guard, writes 6, keeps it until `go`, and tells the value that it found; waits until it is kept |
+//! | `p0 keep_write 6`, `p1 holds` | takes a guard, writes 6, keeps it until `go`, and tells the value that it found; waits until it is kept |
 //! | `main`, `line_word 1`, `answer_word 1`, `value` | words and the value at the end, once all places have left, or are dropped (`stay`) |
 
 use crate::tally::is_counted;
@@ -61,6 +61,6 @@ pub fn is_setting(verb: &str) -> bool {
     verb.starts_with("at_")
         || matches!(
             verb,
-            "stay" | "main" | "line_word" | "answer_word" | "value"
+            "spins" | "stay" | "main" | "line_word" | "answer_word" | "value"
         )
 }

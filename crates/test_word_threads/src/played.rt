@@ -6,11 +6,10 @@ ghost use Rattle.saa_word_threads.specs.Semaphores.{IsDealtBy};
 
 use crate::locks::{self, owners_of};
 use crate::player::{members_of, play};
-use crate::scene::{Scene, threads_of};
+use crate::scene::{Scene, narrow, threads_of};
 use crate::semaphores::{self, workers_of};
-use saa_word_forms::mutex::{Mutex, MutexWorker};
 use saa_word_forms::rw_lock::{RwLock, RwLockWorker};
-use saa_word_forms::testing::{lock_of_mutex, lock_of_rw_lock};
+use saa_word_forms::testing::lock_of_rw_lock;
 use saa_word_threads::lock::{Lock, Place as LockPlace};
 use saa_word_threads::semaphore::{Place, Semaphore, Words};
 use std::alloc::AllocGlobal;
@@ -29,10 +28,10 @@ type Found = Option<Failed<'static>>;
 const VALUE: u64 = 5;
 
 // The first that was found.
-fn first_of(mut found: Vec<Found>) -> Found {
-    for _member in 0..found.len() {
-        if let Some(Some(failed)) = found.pop() {
-            return Some(failed);
+fn first_of(found: Vec<Found>) -> Found {
+    for failed in found {
+        if failed.is_some() {
+            return failed;
         }
     }
     None
@@ -62,33 +61,28 @@ fn first_at_end(moves: &[Move<'static>], words: &Words, value: Option<u64>) -> F
 }
 
 // A story at a semaphore that dealt these places.
-fn with_workers<R>(
+fn with_workers<R: Wait + Clock + Threads + Sync + RandomSource + AllocGlobal>(
     rt: &R,
     host: HostRuntime,
     semaphore: &Semaphore,
     places: Vec<Place>,
     moves: &[Move<'static>],
 ) -> io::Result<Found>
-where
-    R: Wait + Clock + Threads + Sync + RandomSource + AllocGlobal,
     requires { All (IsDealtBy semaphore.now) places.items }
 {
-    let count = places.len() as u16;
+    let count = narrow(places.len());
     let scene = Scene::new(rt, host, semaphore, moves, count)?;
     let workers = workers_of(rt.alloc(), semaphore, places, threads_of(count))?;
     let members = members_of(rt.alloc(), workers, count)?;
     Ok(first_of(thread::map_vec(rt, members, &|member| play(&scene, member))?))
 }
 
-fn at_semaphore<R>(
+fn at_semaphore<R: Wait + Clock + Threads + Sync + RandomSource + AllocGlobal>(
     rt: &R,
     host: HostRuntime,
     line: &Call<'_>,
     moves: &[Move<'static>],
-) -> io::Result<Found>
-where
-    R: Wait + Clock + Threads + Sync + RandomSource + AllocGlobal,
-{
+) -> io::Result<Found> {
     let [withheld, _, _] = line.numbers();
     let count = line.room(1).saturating_add(1);
     let (semaphore, mut places) = Semaphore::new(rt.alloc(), withheld, count)?;
@@ -103,33 +97,28 @@ where
 }
 
 // The same at a lock.
-fn with_owners<R>(
+fn with_owners<R: Wait + Clock + Threads + Sync + RandomSource + AllocGlobal>(
     rt: &R,
     host: HostRuntime,
     lock: &Lock,
     places: Vec<LockPlace>,
     moves: &[Move<'static>],
 ) -> io::Result<Found>
-where
-    R: Wait + Clock + Threads + Sync + RandomSource + AllocGlobal,
     requires { All (IsDealtByLock lock.now) places.items }
 {
-    let count = places.len() as u16;
+    let count = narrow(places.len());
     let scene = Scene::new(rt, host, lock, moves, count)?;
     let owners = owners_of(rt.alloc(), lock, &scene, places, threads_of(count))?;
     let members = members_of(rt.alloc(), owners, count)?;
     Ok(first_of(thread::map_vec(rt, members, &|member| play(&scene, member))?))
 }
 
-fn at_lock<R>(
+fn at_lock<R: Wait + Clock + Threads + Sync + RandomSource + AllocGlobal>(
     rt: &R,
     host: HostRuntime,
     line: &Call<'_>,
     moves: &[Move<'static>],
-) -> io::Result<Found>
-where
-    R: Wait + Clock + Threads + Sync + RandomSource + AllocGlobal,
-{
+) -> io::Result<Found> {
     let (lock, mut places) = Lock::new(rt.alloc(), line.room(0).saturating_add(1))?;
     let witness = locks::last_of(&lock, &mut places);
     let found = with_owners(rt, host, &lock, places, moves)?;
@@ -141,46 +130,12 @@ where
     Ok(found.or(first_at_end(moves, &words, None)))
 }
 
-// At a mutex with two workers, and one that leaves at the end.
-fn at_mutex<R>(rt: &R, host: HostRuntime, moves: &[Move<'static>]) -> io::Result<Found>
-where
-    R: Wait + Clock + Threads + Sync + RandomSource + AllocGlobal,
-{
-    let (mutex, mut places) = Mutex::new(rt.alloc(), VALUE, 3)?;
-    let (Some(witness), Some(second), Some(first)) = (places.pop(), places.pop(), places.pop())
-    else {
-        unreachable!()
-    };
-    let (first, second) = (mutex.worker(first), mutex.worker(second));
-    let found = with_mutex(rt, host, lock_of_mutex(&mutex), [second, first], moves)?;
-    let left = mutex.worker(witness).leave(rt);
-    let (value, words) = mutex.close(left);
-    Ok(found.or(first_at_end(moves, &words, Some(value))))
-}
-
-fn with_mutex<R>(
+// At a reader-writer lock with two workers, and one that leaves at the end.
+fn at_rw_lock<R: Wait + Clock + Threads + Sync + RandomSource + AllocGlobal>(
     rt: &R,
     host: HostRuntime,
-    lock: &Lock,
-    [second, first]: [MutexWorker<'_, u64>; 2],
     moves: &[Move<'static>],
-) -> io::Result<Found>
-where
-    R: Wait + Clock + Threads + Sync + RandomSource + AllocGlobal,
-{
-    let scene = Scene::new(rt, host, lock, moves, 2)?;
-    let mut workers = Vec::new(rt.alloc());
-    workers.push(second)?;
-    workers.push(first)?;
-    let members = members_of(rt.alloc(), workers, 2)?;
-    Ok(first_of(thread::map_vec(rt, members, &|member| play(&scene, member))?))
-}
-
-// At a reader-writer lock.
-fn at_rw_lock<R>(rt: &R, host: HostRuntime, moves: &[Move<'static>]) -> io::Result<Found>
-where
-    R: Wait + Clock + Threads + Sync + RandomSource + AllocGlobal,
-{
+) -> io::Result<Found> {
     let (rwlock, mut places) = RwLock::new(rt.alloc(), VALUE, 3)?;
     let (Some(witness), Some(second), Some(first)) = (places.pop(), places.pop(), places.pop())
     else {
@@ -193,16 +148,13 @@ where
     Ok(found.or(first_at_end(moves, &words, Some(value))))
 }
 
-fn with_rw_lock<R>(
+fn with_rw_lock<R: Wait + Clock + Threads + Sync + RandomSource + AllocGlobal>(
     rt: &R,
     host: HostRuntime,
     lock: &Lock,
     [second, first]: [RwLockWorker<'_, u64>; 2],
     moves: &[Move<'static>],
-) -> io::Result<Found>
-where
-    R: Wait + Clock + Threads + Sync + RandomSource + AllocGlobal,
-{
+) -> io::Result<Found> {
     let scene = Scene::new(rt, host, lock, moves, 2)?;
     let mut workers = Vec::new(rt.alloc());
     workers.push(second)?;
@@ -212,10 +164,11 @@ where
 }
 
 /// The first row of these stories that is answered otherwise.
-pub fn first_failed<R>(rt: &R, host: HostRuntime, stories: &'static str) -> io::Result<Found>
-where
-    R: Wait + Clock + Threads + Sync + RandomSource + AllocGlobal,
-{
+pub fn first_failed<R: Wait + Clock + Threads + Sync + RandomSource + AllocGlobal>(
+    rt: &R,
+    host: HostRuntime,
+    stories: &'static str,
+) -> io::Result<Found> {
     for story in stories.split("\n\n") {
         let moves = moves_of(rt.alloc(), story)?;
         let Some((first, rows)) = moves.split_first() else {
@@ -224,7 +177,6 @@ where
         let found = match first.call.verb {
             "semaphore" => at_semaphore(rt, host, &first.call, rows)?,
             "lock" => at_lock(rt, host, &first.call, rows)?,
-            "mutex" => at_mutex(rt, host, rows)?,
             _ => at_rw_lock(rt, host, rows)?,
         };
         if found.is_some() {

@@ -9,7 +9,7 @@ use std::alloc::AllocGlobal;
 use std::io;
 use std::random::RandomSource;
 use std::sync::Wait;
-use std::sync::atomic::{AtomicBool, AtomicU32, AtomicU64, AtomicUsize, Ordering};
+use std::sync::atomic::{AtomicBool, AtomicU64, AtomicUsize, Ordering};
 use std::thread::yield_now;
 use test_language::language::{Call, Move};
 use test_language::reply::Reply;
@@ -26,10 +26,10 @@ pub trait Form {
     fn once<R: Wait>(&self, rt: &R, verb: &str, count: usize) -> Reply;
 
     /// Whether a place has its mark set: it is parked, or about to park.
-    fn is_marked(&self, place: u16) -> bool;
+    fn is_marked(&self, place: usize) -> bool;
 
     /// Whether an answer is written for a place that it hasn't taken, where the form says it.
-    fn is_answered(&self, place: u16) -> Option<bool>;
+    fn is_answered(&self, place: usize) -> Option<bool>;
 
     /// Answers all that wait, in a story that has failed.
     fn let_all_go<R: Wait>(&self, rt: &R);
@@ -62,19 +62,22 @@ pub struct Scene<'s, R, F> {
     // The number of the first place that has a thread, and these.
     first: usize,
     seats: Vec<Seat>,
-    one: MockTask,
-    two: MockTask,
-    // How many moves may have begun.
-    begun: AtomicUsize,
-    has_failed: AtomicBool,
+    tasks: (MockTask, MockTask),
+    /// How many moves may have begun, and whether a row was answered otherwise.
+    pub begun: AtomicUsize,
+    pub has_failed: AtomicBool,
     // How many are ready for their turns.
     ready: AtomicUsize,
-    looks: AtomicU32,
-    yields: AtomicU32,
-    // The place that is held, counted from 1, and how many were let go.
+    // The place that is held, counted from 1.
     held: AtomicUsize,
-    let_go: AtomicUsize,
-    refused: AtomicU64,
+    /// How many were let go, and how often visitors that came at moments were refused.
+    pub let_go: AtomicUsize,
+    pub refused: AtomicUsize,
+}
+
+/// The number of a place, which is less than there can be.
+pub fn narrow(place: usize) -> u16 {
+    u16::try_from(place).unwrap_or(u16::MAX)
 }
 
 /// How many of so many places have threads.
@@ -111,25 +114,17 @@ impl<'s, R, F> Scene<'s, R, F> {
             host,
             first: usize::from(places.saturating_sub(threads)),
             seats,
-            one: MockTask::new(rt)?,
-            two: MockTask::new(rt)?,
+            tasks: (MockTask::new(rt)?, MockTask::new(rt)?),
             begun: AtomicUsize::new(0),
             has_failed: AtomicBool::new(false),
             ready: AtomicUsize::new(0),
-            looks: AtomicU32::new(DEFAULT.looks),
-            yields: AtomicU32::new(DEFAULT.yields),
             held: AtomicUsize::new(0),
             let_go: AtomicUsize::new(0),
-            refused: AtomicU64::new(0),
+            refused: AtomicUsize::new(0),
         };
-        scene.one.enter(|_cx| ());
-        scene.two.enter(|_cx| ());
+        scene.tasks.0.enter(|_cx| ());
+        scene.tasks.1.enter(|_cx| ());
         Ok(scene)
-    }
-
-    /// The number of the first place that has a thread.
-    pub fn first(&self) -> usize {
-        self.first
     }
 
     /// What is known of a place, if it has a thread.
@@ -140,34 +135,28 @@ impl<'s, R, F> Scene<'s, R, F> {
     /// A task of the story.
     pub fn task(&self, number: usize) -> &MockTask {
         match number {
-            0 => &self.one,
-            _ => &self.two,
+            0 => &self.tasks.0,
+            _ => &self.tasks.1,
         }
     }
 
     /// How watched calls spin.
     pub fn spin_policy(&self) -> SpinPolicy {
-        SpinPolicy {
-            looks: self.looks.load(Ordering::SeqCst),
-            yields: self.yields.load(Ordering::SeqCst),
+        for row in self.moves {
+            if row.call.verb == "spins" {
+                let [looks, yields, _] = row.call.numbers();
+                return SpinPolicy {
+                    looks: u32::try_from(looks).unwrap_or(u32::MAX),
+                    yields: u32::try_from(yields).unwrap_or(u32::MAX),
+                };
+            }
         }
+        DEFAULT
     }
 
-    /// Sets it.
-    pub fn set_spin_policy(&self, [looks, yields, _]: [usize; 3]) {
-        self.looks
-            .store(u32::try_from(looks).unwrap_or(u32::MAX), Ordering::SeqCst);
-        self.yields.store(u32::try_from(yields).unwrap_or(u32::MAX), Ordering::SeqCst);
-    }
-
-    /// Whether a row was answered otherwise.
+    /// Whether a row was answered otherwise: nothing more is waited for.
     pub fn has_failed(&self) -> bool {
         self.has_failed.load(Ordering::SeqCst)
-    }
-
-    /// Nothing more is waited for.
-    pub fn fail(&self) {
-        self.has_failed.store(true, Ordering::SeqCst);
     }
 
     /// This thread is that of a place.
@@ -175,16 +164,6 @@ impl<'s, R, F> Scene<'s, R, F> {
         if let Some(seat) = self.seat(place) {
             seat.thread.store(own_number(self.host), Ordering::SeqCst);
         }
-    }
-
-    /// All moves up to this one may be made.
-    pub fn allow(&self, at: usize) {
-        self.begun.store(at.saturating_add(1), Ordering::SeqCst);
-    }
-
-    /// Whether this move may be made.
-    pub fn is_allowed(&self, at: usize) -> bool {
-        self.begun.load(Ordering::SeqCst) > at
     }
 
     /// A place is done with its moves up to this one, or they are another's.
@@ -196,18 +175,14 @@ impl<'s, R, F> Scene<'s, R, F> {
 
     /// Whether that is so; also of a place with no thread.
     pub fn has_passed(&self, place: usize, at: usize) -> bool {
-        match self.seat(place) {
-            Some(seat) => seat.passed.load(Ordering::SeqCst) > at,
-            None => true,
-        }
+        self.seat(place)
+            .is_none_or(|seat| seat.passed.load(Ordering::SeqCst) > at)
     }
 
     /// How often a word of a place came.
     pub fn count_of(&self, place: usize, word: &str) -> u64 {
-        match self.seat(place) {
-            Some(seat) => seat.tally.read(word).unwrap_or(0),
-            None => 0,
-        }
+        let seat = self.seat(place);
+        seat.and_then(|seat| seat.tally.read(word)).unwrap_or(0)
     }
 
     /// Whether a call of a place was blocked, and yielded each time, often.
@@ -220,16 +195,6 @@ impl<'s, R, F> Scene<'s, R, F> {
     pub fn is_held(&self, place: usize) -> bool {
         self.held.load(Ordering::SeqCst) == place.saturating_add(1)
     }
-
-    /// Whoever is held goes on.
-    pub fn let_go(&self) {
-        self.let_go.fetch_add(1, Ordering::SeqCst);
-    }
-
-    /// How often visitors that came at moments were refused.
-    pub fn refused(&self) -> u64 {
-        self.refused.load(Ordering::SeqCst)
-    }
 }
 
 impl<R: Wait, F: Form> Scene<'_, R, F> {
@@ -238,40 +203,41 @@ impl<R: Wait, F: Form> Scene<'_, R, F> {
         let Some(seat) = self.seat(place) else {
             return false;
         };
-        self.form.is_marked(place as u16)
-            && is_asleep(self.host, seat.thread.load(Ordering::SeqCst))
+        self.form.is_marked(place) && is_asleep(self.host, seat.thread.load(Ordering::SeqCst))
     }
 
-    /// Holds a place until it is let go.
-    pub fn hold(&self, place: usize) {
-        let before = self.let_go.load(Ordering::SeqCst);
-        self.held.store(place.saturating_add(1), Ordering::SeqCst);
+    /// Waits until this is so, or the story has failed.
+    pub fn await_that<T: Fn() -> bool>(&self, is_so: T)
+        requires { T.IsAlwaysCallable is_so }
+    {
         for _turn in self.rt.forever() {
-            if self.let_go.load(Ordering::SeqCst) > before || self.has_failed() {
-                break;
-            }
-            yield_now();
-        }
-        self.held.store(0, Ordering::SeqCst);
-    }
-
-    /// Waits until so many are ready for their turns.
-    pub fn meet(&self, count: usize) {
-        self.ready.fetch_add(1, Ordering::SeqCst);
-        for _turn in self.rt.forever() {
-            if self.ready.load(Ordering::SeqCst) >= count || self.has_failed() {
+            if is_so() || self.has_failed() {
                 return;
             }
             yield_now();
         }
     }
 
+    /// Holds a place until it is let go.
+    pub fn hold(&self, place: usize) {
+        let before = self.let_go.load(Ordering::SeqCst);
+        self.held.store(place.saturating_add(1), Ordering::SeqCst);
+        self.await_that(|| self.let_go.load(Ordering::SeqCst) > before);
+        self.held.store(0, Ordering::SeqCst);
+    }
+
+    /// Waits until so many are ready for their turns.
+    pub fn meet(&self, count: usize) {
+        self.ready.fetch_add(1, Ordering::SeqCst);
+        self.await_that(|| self.ready.load(Ordering::SeqCst) >= count);
+    }
+
     // An answer is written or isn't, and whoever it is for isn't woken: a thread sleeps, and the first task, which is the one that polled last, wasn't woken.
     fn see(&self, place: u16, is_written: bool) {
-        self.inside
-            .check(self.form.is_answered(place) != Some(!is_written));
-        self.inside.check(!self.form.is_marked(place) || self.sleeps(usize::from(place)));
-        self.inside.check(!self.one.is_woken());
+        let (inside, place) = (&self.inside, usize::from(place));
+        inside.check(self.form.is_answered(place) != Some(!is_written));
+        inside.check(!self.form.is_marked(place) || self.sleeps(place));
+        inside.check(!self.tasks.0.is_woken());
     }
 }
 
@@ -285,7 +251,7 @@ pub struct At<'s, R, F> {
 impl<R: Wait, F: Form> At<'_, R, F> {
     // Whether its mark is set.
     fn is_marked(&self) -> bool {
-        self.scene.form.is_marked(self.place as u16)
+        self.scene.form.is_marked(self.place)
     }
 
     // Its mark is set as it parks, and not before; and an answer is written before its waiter is woken.

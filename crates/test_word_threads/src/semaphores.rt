@@ -3,7 +3,7 @@
 ghost use Rattle.std.specs.Prelude.{All, IfSome};
 ghost use Rattle.saa_word_threads.specs.Semaphores.{IsDealtBy};
 
-use crate::scene::{At, Caller, Form};
+use crate::scene::{At, Caller, Form, narrow};
 use futures::Future;
 use futures::task::{Context, Poll};
 use saa_word_threads::semaphore::{Error, Place, SemaphoreOf};
@@ -12,7 +12,7 @@ use saa_word_threads::testing::{
 };
 use std::alloc::{AllocError, Global};
 use std::sync::Wait;
-use std::time::{Clock, Instant};
+use std::time::Clock;
 use test_language::language::{Call, Time};
 use test_language::reply::{Replies, Reply, ReplyWord, number, unknown, word};
 
@@ -36,12 +36,12 @@ impl<const MAX: usize> Form for SemaphoreOf<MAX> {
         }
     }
 
-    fn is_marked(&self, place: u16) -> bool {
-        is_parked_at(self, place)
+    fn is_marked(&self, place: usize) -> bool {
+        is_parked_at(self, narrow(place))
     }
 
     // It doesn't say.
-    fn is_answered(&self, _place: u16) -> Option<bool> {
+    fn is_answered(&self, _place: usize) -> Option<bool> {
         None
     }
 
@@ -93,13 +93,6 @@ fn make_at<R: Wait + Clock, const MAX: usize>(
     let count = call.number().unwrap_or(0);
     match (call.verb, call.time) {
         ("poll_for", Time::Lasts(long)) => semaphore.poll_for(rt, place, long).reply(),
-        ("poll_until", Time::Lasts(long)) => match Instant::now(rt) {
-            Ok(now) => {
-                let end = now.checked_add(long).unwrap_or(now);
-                semaphore.poll_until(rt, place, end).reply()
-            }
-            Err(_unread) => unknown(),
-        },
         ("watched_release", _) => release_watched(semaphore, rt, at, place, count).reply(),
         ("watched_cancel", _) => {
             cancel_watched(semaphore, rt, at, place);
@@ -113,14 +106,7 @@ fn make_at<R: Wait + Clock, const MAX: usize>(
     }
 }
 
-impl<'s, const MAX: usize> Worker<'s, MAX> {
-    /// A place that this semaphore dealt.
-    pub fn new(semaphore: &'s SemaphoreOf<MAX>, place: Place) -> Self
-        requires { IsDealtBy semaphore.now place }
-    {
-        Worker { semaphore, place }
-    }
-
+impl<const MAX: usize> Worker<'_, MAX> {
     /// Makes a call that is neither timed nor watched.
     pub fn call<R: Wait>(&mut self, rt: &R, call: &Call<'_>) -> Reply {
         make(rt, self.semaphore, &mut self.place, call)
@@ -174,7 +160,7 @@ pub fn workers_of<'s, const MAX: usize>(
     let mut workers = Vec::new(alloc);
     for _place in 0..count {
         if let Some(place) = last_of(semaphore, &mut places) {
-            workers.push(Worker::new(semaphore, place))?;
+            workers.push(Worker { semaphore, place })?;
         }
     }
     Ok(workers)

@@ -8,29 +8,12 @@ use std::sync::atomic::{AtomicU64, Ordering};
 // waits: its looks for its answer, its spins and yields after these, and how often it was about to park and came back; of one whose step was blocked, how
 // often, and its yields after that; and of one that answers: how often it was about to publish, to write an answer, had written one, and was about to wake a
 // place; and how often one that polls was about to leave its waker, and had left it.
-static WORDS: [&str; 17] = [
-    "looks",
-    "rests",
-    "yields",
-    "takes",
-    "answer_looks",
-    "answer_spins",
-    "answer_yields",
-    "parks",
-    "backs",
-    "blocks",
-    "defers",
-    "publishes",
-    "writes",
-    "answers",
-    "wakes",
-    "keeps",
-    "polls",
-];
+const WORDS: &str =
+    "looks rests yields takes answer_looks answer_spins answer_yields parks backs blocks defers publishes writes answers wakes keeps polls";
 
 /// Whether a word is counted.
 pub fn is_counted(word: &str) -> bool {
-    WORDS.contains(&word)
+    WORDS.split(' ').any(|name| name == word)
 }
 
 /// The word of a moment.
@@ -74,7 +57,7 @@ impl Tally {
     /// Nothing was counted yet.
     pub fn new(alloc: Global) -> Result<Self, AllocError> {
         let mut counts = Vec::new(alloc);
-        for _word in &WORDS {
+        for _word in WORDS.split(' ') {
             counts.push(AtomicU64::new(0))?;
         }
         Ok(Tally {
@@ -86,7 +69,7 @@ impl Tally {
 
     // The count of a word, if it has one.
     fn count(&self, word: &str) -> Option<&AtomicU64> {
-        let at = WORDS.iter().position(|name| *name == word)?;
+        let at = WORDS.split(' ').position(|name| name == word)?;
         self.counts.get(at)
     }
 

@@ -4,7 +4,6 @@ use crate::scene::{At, Caller, Form};
 use saa_word_threads::lock::Mode;
 use std::sync::Wait;
 use std::sync::atomic::{AtomicU64, Ordering};
-use std::thread::yield_now;
 use test_language::language::Call;
 use test_language::reply::{Reply, number};
 
@@ -52,11 +51,7 @@ impl Inside {
     // Comes in: no other owner is inside where it comes alone, and none is alone where it shares.
     fn enter(&self, who: u64) {
         let before = self.count.fetch_add(who, Ordering::SeqCst);
-        self.check(if who == ALONE {
-            before == 0
-        } else {
-            before < ALONE
-        });
+        self.check(before < if who == ALONE { 1 } else { ALONE });
     }
 
     // Goes, or only shares from now on: it was alone where it came alone, and none is where it shared.
@@ -64,11 +59,7 @@ impl Inside {
         let before = self
             .count
             .fetch_sub(who.wrapping_sub(becomes), Ordering::SeqCst);
-        self.check(if who == ALONE {
-            before == ALONE
-        } else {
-            before < ALONE
-        });
+        self.check(before <= ALONE && (before == ALONE) == (who == ALONE));
     }
 
     // Writes 1 more, in four steps in which another writer or a reader would be seen.
@@ -212,12 +203,8 @@ fn owns<R, F, C: Caller<R, F>>(caller: &mut C, at: &At<'_, R, F>, turn: usize) -
 // Takes the lock with no place once it is free, writes, and gives it back.
 fn visits_lock<R: Wait, F: Form>(at: &At<'_, R, F>) -> bool {
     let (rt, form) = (at.scene.rt, at.scene.form);
-    for _turn in rt.forever() {
-        if form.once(rt, "try_lock", 0).is("ok") {
-            break;
-        }
-        yield_now();
-    }
+    at.scene
+        .await_that(|| form.once(rt, "try_lock", 0).is("ok"));
     at.scene.inside.enter(ALONE);
     at.scene.inside.write();
     at.scene.inside.leave(ALONE, 0);
