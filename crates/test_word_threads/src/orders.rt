@@ -17,7 +17,7 @@
 //! | `faults` | how often something was otherwise at a moment than it has to be, or at a turn inside the lock |
 //! | `crowd 4 turns 2000 permits` | turns of a kind ([`crate::turns`]): how many were right |
 //! | `in_turn 24 release 1` | makes the call so often, of which each answers so many of the crowd: how often these ended, and no others |
-//! | `p0 keep_write 6`, `p1 holds` | takes a guard, writes 6, keeps it until `go`, and tells the value that it found; waits until it is kept |
+//! | `p0 keep_write 6`, `p1 holds` | takes a guard, writes 6, keeps it until `go`, and answers the value that it found; waits until it is kept |
 //! | `main`, `line_word 1`, `answer_word 1`, `value` | words and the value at the end, once all places have left, or are dropped (`stay`) |
 
 use crate::tally::is_counted;
