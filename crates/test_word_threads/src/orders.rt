@@ -20,7 +20,7 @@
 //! | `p0 keep_write 6`, `p1 holds` | takes a guard, writes 6, keeps it until `go`, and answers the value that it found; waits until it is kept |
 //! | `main`, `line_word 1`, `answer_word 1`, `value` | words and the value at the end, once all places have left, or are dropped (`stay`) |
 
-use crate::tally::is_counted;
+use crate::tally::WORDS;
 use test_language::language::{Call, Subject};
 
 /// The places that a move names: the first, and how many.
@@ -53,7 +53,7 @@ pub fn is_made(verb: &str) -> bool {
         verb,
         "ends" | "ended" | "marked" | "deferred" | "in_order" | "holds"
     );
-    !is_read && !is_counted(verb)
+    !is_read && !WORDS.split(' ').any(|word| word == verb)
 }
 
 /// Whether a move is no call, but says what a story is like, or its end.

@@ -6,7 +6,7 @@ ghost use Rattle.saa_word_threads.specs.Semaphores.{IsDealtBy};
 
 use crate::locks::{self, owners_of};
 use crate::player::{members_of, play};
-use crate::scene::{Scene, narrow, threads_of};
+use crate::scene::{MOST, Scene, narrow};
 use crate::semaphores::{self, workers_of};
 use saa_word_forms::rw_lock::{RwLock, RwLockWorker};
 use saa_word_forms::testing::lock_of_rw_lock;
@@ -72,7 +72,7 @@ fn with_workers<R: Wait + Clock + Threads + Sync + RandomSource + AllocGlobal>(
 {
     let count = narrow(places.len());
     let scene = Scene::new(rt, host, semaphore, moves, count)?;
-    let workers = workers_of(rt.alloc(), semaphore, places, threads_of(count))?;
+    let workers = workers_of(rt.alloc(), semaphore, places, count.min(MOST))?;
     let members = members_of(rt.alloc(), workers, count)?;
     Ok(first_of(thread::map_vec(rt, members, &|member| play(&scene, member))?))
 }
@@ -108,7 +108,7 @@ fn with_owners<R: Wait + Clock + Threads + Sync + RandomSource + AllocGlobal>(
 {
     let count = narrow(places.len());
     let scene = Scene::new(rt, host, lock, moves, count)?;
-    let owners = owners_of(rt.alloc(), lock, &scene, places, threads_of(count))?;
+    let owners = owners_of(rt.alloc(), lock, &scene, places, count.min(MOST))?;
     let members = members_of(rt.alloc(), owners, count)?;
     Ok(first_of(thread::map_vec(rt, members, &|member| play(&scene, member))?))
 }
@@ -141,8 +141,10 @@ fn at_rw_lock<R: Wait + Clock + Threads + Sync + RandomSource + AllocGlobal>(
     else {
         unreachable!()
     };
-    let (first, second) = (rwlock.worker(first), rwlock.worker(second));
-    let found = with_rw_lock(rt, host, lock_of_rw_lock(&rwlock), [second, first], moves)?;
+    let mut workers = Vec::new(rt.alloc());
+    workers.push(rwlock.worker(second))?;
+    workers.push(rwlock.worker(first))?;
+    let found = with_rw_lock(rt, host, lock_of_rw_lock(&rwlock), workers, moves)?;
     let left = rwlock.worker(witness).leave(rt);
     let (value, words) = rwlock.close(left);
     Ok(found.or(first_at_end(moves, &words, Some(value))))
@@ -152,13 +154,10 @@ fn with_rw_lock<R: Wait + Clock + Threads + Sync + RandomSource + AllocGlobal>(
     rt: &R,
     host: HostRuntime,
     lock: &Lock,
-    [second, first]: [RwLockWorker<'_, u64>; 2],
+    workers: Vec<RwLockWorker<'_, u64>>,
     moves: &[Move<'static>],
 ) -> io::Result<Found> {
     let scene = Scene::new(rt, host, lock, moves, 2)?;
-    let mut workers = Vec::new(rt.alloc());
-    workers.push(second)?;
-    workers.push(first)?;
     let members = members_of(rt.alloc(), workers, 2)?;
     Ok(first_of(thread::map_vec(rt, members, &|member| play(&scene, member))?))
 }

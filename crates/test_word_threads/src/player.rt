@@ -9,7 +9,7 @@ use std::sync::atomic::Ordering;
 use std::thread::{self, yield_now};
 use std::time::{Clock, Duration};
 use test_language::language::{Call, Failed, Move, Subject};
-use test_language::reply::{Replies, Reply, ReplyWord, number, unknown, word};
+use test_language::reply::{Replies, Reply, ReplyWord, number, word};
 
 // How many places look for their turn without a pause; and how long the others sleep between two looks, in microseconds.
 const FEW: usize = 4;
@@ -31,10 +31,8 @@ pub fn members_of<C: Drop>(
 ) -> Result<Vec<Member<C>>, AllocError> {
     let mut members = Vec::new(alloc);
     let mut place = usize::from(places);
-    members.push(Member {
-        place,
-        caller: None,
-    })?;
+    let caller = None;
+    members.push(Member { place, caller })?;
     for caller in callers {
         let caller = Some(caller);
         place = place.saturating_sub(1);
@@ -49,6 +47,7 @@ pub fn play<R: Wait + Clock, F: Form, C: Caller<R, F> + Drop>(
     member: Member<C>,
 ) -> Option<Failed<'static>> {
     let Member { place, caller } = member;
+    let scene = &*scene;
     let failed = match caller {
         Some(mut caller) => {
             scene.begin(place);
@@ -145,12 +144,13 @@ impl<R: Wait, F: Form> Scene<'_, R, F> {
         if places.1 == 0 {
             return Some(self.made(at, &call));
         }
-        if !is_made(call.verb) && call.verb != "ends" {
-            return Some(self.read(at, places, call.verb));
+        let is_awaited = matches!(call.verb, "ends" | "holds");
+        if is_made(call.verb) || is_awaited {
+            self.begun.store(at.saturating_add(1), Ordering::SeqCst);
+            self.await_places(at, places, call.verb);
+            return is_awaited.then_some(word(ReplyWord::Done));
         }
-        self.begun.store(at.saturating_add(1), Ordering::SeqCst);
-        self.await_places(at, places, call.verb);
-        (call.verb == "ends").then_some(word(ReplyWord::Done))
+        Some(self.read(at, places, call.verb))
     }
 
     // How many of these places are done with their moves up to this one.
@@ -162,14 +162,20 @@ impl<R: Wait, F: Form> Scene<'_, R, F> {
         passed
     }
 
-    // Waits until each of these places is done with a move, or is away: it sleeps, is held or is deferred. The wait for their ends waits for all.
+    // Waits until each of these places is done with a move, or is away; or has ended, or is held, where that is waited for.
     fn await_places(&self, at: usize, (first, count): (usize, usize), verb: &str) {
         for place in first..first.saturating_add(count) {
-            self.await_that(|| {
-                let is_away = verb != "ends"
-                    && (self.sleeps(place) || self.is_held(place) || self.is_deferred(place));
-                is_away || self.has_passed(place, at)
-            });
+            for _turn in self.rt.forever() {
+                let is_there = match verb {
+                    "ends" => self.has_passed(place, at),
+                    "holds" => self.is_held(place),
+                    _ => self.has_passed(place, at) || self.is_away(place),
+                };
+                if is_there || self.has_failed() {
+                    break;
+                }
+                yield_now();
+            }
         }
     }
 
@@ -179,13 +185,9 @@ impl<R: Wait, F: Form> Scene<'_, R, F> {
             "ended" => number(self.passed(at.saturating_sub(1), (place, count))),
             "marked" => self.form.is_marked(place).reply(),
             "deferred" => self.is_deferred(place).reply(),
-            "in_order" => match self.seat(place) {
-                Some(seat) => seat.tally.is_in_order().reply(),
-                None => unknown(),
-            },
-            "holds" => {
-                self.await_that(|| self.is_held(place));
-                word(ReplyWord::Done)
+            "in_order" => {
+                let seat = self.seat(place);
+                seat.is_some_and(|seat| seat.tally.is_in_order()).reply()
             }
             _ => number(self.count_of(place, verb) as usize),
         }

@@ -17,8 +17,8 @@ use test_language::reply::Reply;
 // How often a call yields at least whose step is blocked, before the story goes on.
 const DEFERS: u64 = 100;
 
-// How many of the last places of a form have threads at most.
-const MOST: u16 = 40;
+/// How many of the last places of a form have threads at most.
+pub const MOST: u16 = 40;
 
 /// A form of the word: its calls with no place, and what is seen of its places.
 pub trait Form {
@@ -80,11 +80,6 @@ pub fn narrow(place: usize) -> u16 {
     u16::try_from(place).unwrap_or(u16::MAX)
 }
 
-/// How many of so many places have threads.
-pub fn threads_of(places: u16) -> u16 {
-    places.min(MOST)
-}
-
 impl<'s, R, F> Scene<'s, R, F> {
     /// Nothing has happened yet, at a form with so many places.
     pub fn new(
@@ -97,7 +92,7 @@ impl<'s, R, F> Scene<'s, R, F> {
     where
         R: RandomSource + AllocGlobal,
     {
-        let threads = threads_of(places);
+        let threads = places.min(MOST);
         let mut seats = Vec::new(rt.alloc());
         for _seat in 0..threads {
             seats.push(Seat {
@@ -198,38 +193,41 @@ impl<'s, R, F> Scene<'s, R, F> {
 }
 
 impl<R: Wait, F: Form> Scene<'_, R, F> {
-    /// Whether the thread of a place sleeps where it parked.
-    pub fn sleeps(&self, place: usize) -> bool {
+    // Whether the thread of a place sleeps where it parked.
+    fn sleeps(&self, place: usize) -> bool {
         let Some(seat) = self.seat(place) else {
             return false;
         };
         self.form.is_marked(place) && is_asleep(self.host, seat.thread.load(Ordering::SeqCst))
     }
 
-    /// Waits until this is so, or the story has failed.
-    pub fn await_that<T: Fn() -> bool>(&self, is_so: T)
-        requires { T.IsAlwaysCallable is_so }
-    {
-        for _turn in self.rt.forever() {
-            if is_so() || self.has_failed() {
-                return;
-            }
-            yield_now();
-        }
+    /// Whether a place is away in a call: it sleeps, is held, or is deferred.
+    pub fn is_away(&self, place: usize) -> bool {
+        self.sleeps(place) || self.is_held(place) || self.is_deferred(place)
     }
 
     /// Holds a place until it is let go.
     pub fn hold(&self, place: usize) {
         let before = self.let_go.load(Ordering::SeqCst);
         self.held.store(place.saturating_add(1), Ordering::SeqCst);
-        self.await_that(|| self.let_go.load(Ordering::SeqCst) > before);
+        for _turn in self.rt.forever() {
+            if self.let_go.load(Ordering::SeqCst) > before || self.has_failed() {
+                break;
+            }
+            yield_now();
+        }
         self.held.store(0, Ordering::SeqCst);
     }
 
     /// Waits until so many are ready for their turns.
     pub fn meet(&self, count: usize) {
         self.ready.fetch_add(1, Ordering::SeqCst);
-        self.await_that(|| self.ready.load(Ordering::SeqCst) >= count);
+        for _turn in self.rt.forever() {
+            if self.ready.load(Ordering::SeqCst) >= count || self.has_failed() {
+                return;
+            }
+            yield_now();
+        }
     }
 
     // An answer is written or isn't, and whoever it is for isn't woken: a thread sleeps, and the first task, which is the one that polled last, wasn't woken.

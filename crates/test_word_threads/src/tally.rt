@@ -4,17 +4,12 @@ use saa_word_threads::testing::{Made, Moment, Pause};
 use std::alloc::{AllocError, Global};
 use std::sync::atomic::{AtomicU64, Ordering};
 
-// What is counted of a place that asks: its looks, the turns of its rests, its yields, and how often it was about to take what it asked for; of one that
-// waits: its looks for its answer, its spins and yields after these, and how often it was about to park and came back; of one whose step was blocked, how
-// often, and its yields after that; and of one that answers: how often it was about to publish, to write an answer, had written one, and was about to wake a
-// place; and how often one that polls was about to leave its waker, and had left it.
-const WORDS: &str =
+/// What is counted of a place that asks: its looks, the turns of its rests, its yields, and how often it was about to take what it asked for; of one that
+/// waits: its looks for its answer, its spins and yields after these, and how often it was about to park and came back; of one whose step was blocked, how
+/// often, and its yields after that; and of one that answers: how often it was about to publish, to write an answer, had written one, and was about to wake a
+/// place; and how often one that polls was about to leave its waker, and had left it.
+pub const WORDS: &str =
     "looks rests yields takes answer_looks answer_spins answer_yields parks backs blocks defers publishes writes answers wakes keeps polls";
-
-/// Whether a word is counted.
-pub fn is_counted(word: &str) -> bool {
-    WORDS.split(' ').any(|name| name == word)
-}
 
 /// The word of a moment.
 pub fn word_of(moment: Moment) -> &'static str {

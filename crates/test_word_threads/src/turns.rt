@@ -4,6 +4,7 @@ use crate::scene::{At, Caller, Form};
 use saa_word_threads::lock::Mode;
 use std::sync::Wait;
 use std::sync::atomic::{AtomicU64, Ordering};
+use std::thread::yield_now;
 use test_language::language::Call;
 use test_language::reply::{Reply, number};
 
@@ -203,8 +204,12 @@ fn owns<R, F, C: Caller<R, F>>(caller: &mut C, at: &At<'_, R, F>, turn: usize) -
 // Takes the lock with no place once it is free, writes, and gives it back.
 fn visits_lock<R: Wait, F: Form>(at: &At<'_, R, F>) -> bool {
     let (rt, form) = (at.scene.rt, at.scene.form);
-    at.scene
-        .await_that(|| form.once(rt, "try_lock", 0).is("ok"));
+    for _turn in rt.forever() {
+        if form.once(rt, "try_lock", 0).is("ok") {
+            break;
+        }
+        yield_now();
+    }
     at.scene.inside.enter(ALONE);
     at.scene.inside.write();
     at.scene.inside.leave(ALONE, 0);
