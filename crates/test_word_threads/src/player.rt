@@ -47,11 +47,10 @@ pub fn play<R: Wait + Clock, F: Form, C: Caller<R, F> + Drop>(
     member: Member<C>,
 ) -> Option<Failed<'static>> {
     let Member { place, caller } = member;
-    let scene = &*scene;
     let failed = match caller {
         Some(mut caller) => {
             scene.begin(place);
-            let failed = first_of_place(&At { scene, place }, &mut caller);
+            let failed = first_of_place(scene, place, &mut caller);
             if !scene.moves.iter().any(|row| row.call.verb == "stay") {
                 caller.leave(scene.rt);
             }
@@ -68,13 +67,16 @@ pub fn play<R: Wait + Clock, F: Form, C: Caller<R, F> + Drop>(
 
 // The first row of a place that is answered otherwise.
 fn first_of_place<R: Wait + Clock, F: Form, C: Caller<R, F>>(
-    at: &At<'_, R, F>,
+    scene: &Scene<'_, R, F>,
+    place: usize,
     caller: &mut C,
 ) -> Option<Failed<'static>> {
-    for (number, row) in at.scene.moves.iter().enumerate() {
+    let scene = &*scene;
+    let at = &At { scene, place };
+    for (number, row) in scene.moves.iter().enumerate() {
         let (first, count) = places_of(&row.call);
         let call = call_of(&row.call);
-        let is_here = at.place >= first && at.place.saturating_sub(first) < count;
+        let is_here = place >= first && place.saturating_sub(first) < count;
         if is_here && is_made(call.verb) {
             if !at.awaits_turn(number, first, call.verb) {
                 return None;
@@ -88,7 +90,7 @@ fn first_of_place<R: Wait + Clock, F: Form, C: Caller<R, F>>(
                 return failed;
             }
         }
-        at.scene.pass(at.place, number);
+        scene.pass(place, number);
     }
     None
 }
