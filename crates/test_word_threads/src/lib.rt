@@ -2,7 +2,6 @@
 //!
 //! A story is a paragraph of text in the language of stories (`test_language`), with words of its own for places ([`orders`]); one player makes its moves
 //! ([`player`]) at each form, with a thread for each place. Expected answers are worked by hand from the definitions (`docs/DEFINITIONS.md`).
-//!
 //! Every test joins its threads and ends by itself. Nothing rests on timing, but for `pauses`, which asks that pauses last.
 #![tactic(auto)]
 
