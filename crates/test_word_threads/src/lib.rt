@@ -1,7 +1,8 @@
-//! Tests of the word's semaphore and lock on threads: that their calls do on shared words what their contracts say, wait, and are woken;
-//! and of the mutex and the reader-writer lock on it.
+//! Tests of the word's semaphore and lock on threads, and of the mutex and the reader-writer lock on it: what no contract says of their calls.
 //!
-//! Every test joins its threads, ends by itself, and rests nothing on timing, but for `pauses`, which asks that pauses last.
+//! A story is a paragraph of text in the language of stories (`test_language`), with words of its own for places ([`orders`]); one player makes its moves
+//! ([`player`]) at each form, with a thread for each place. Expected answers are worked by hand from the definitions (`docs/DEFINITIONS.md`).
+//! Every test joins its threads and ends by itself. Nothing rests on timing, but for `pauses`, which asks that pauses last.
 #![tactic(auto)]
 
 #[cfg(test)]
@@ -9,38 +10,28 @@ mod abstract_state;
 #[cfg(test)]
 mod asleep;
 #[cfg(test)]
-mod beside;
-#[cfg(test)]
 mod closing;
 #[cfg(test)]
-mod crowd;
-#[cfg(test)]
-mod exclusion;
+mod guards;
 #[cfg(test)]
 mod linearized;
 #[cfg(test)]
 mod locks;
 #[cfg(test)]
-mod looking;
-#[cfg(test)]
-mod owner;
-#[cfg(test)]
-mod parking;
+mod orders;
 #[cfg(test)]
 mod pauses;
 #[cfg(test)]
-mod public_waits;
+mod played;
 #[cfg(test)]
-mod rows;
+mod player;
 #[cfg(test)]
-mod sleepers;
+mod scene;
+#[cfg(test)]
+mod semaphores;
+#[cfg(test)]
+mod stories;
 #[cfg(test)]
 mod tally;
 #[cfg(test)]
-mod task_polls;
-#[cfg(test)]
-mod timed_polls;
-#[cfg(test)]
-mod visits;
-#[cfg(test)]
-mod worker;
+mod turns;
