@@ -1,16 +1,17 @@
 //! The locks of stories: the lock-free one and the threaded one, by the calls that both have under the same names.
 
-use crate::forms::{Asks, Form, Pages, Span};
+use crate::forms::{Caller, Form, Span};
+use crate::parts::polled_twice;
 use saa_core_spec::request::Full;
-use saa_core_waits::{Acquiring, AcquiringWith, Pager};
-use saa_sync::future::lock as threaded_future;
+use saa_core_waits::{Acquiring, Pager};
+use saa_sync::future::Turn as ThreadedTurn;
 use saa_sync::lock::Lock as Threaded;
 use saa_sync::pager::Ticket;
 use saa_sync::testing::{Counted, slot_of};
-use saa_word_lock_free::future as lock_free_future;
+use saa_word_lock_free::future::Turn;
 use saa_word_lock_free::lock::Lock as LockFree;
 use saa_word_lock_free::registration::Registration;
-use saa_word_threads::lock::{Lock as Word, Mode};
+use saa_word_threads::lock::Lock as Word;
 use std::sync::Wait;
 use std::sync::atomic::Ordering::SeqCst;
 use std::time::Clock;
@@ -51,11 +52,22 @@ macro_rules! called_in_time {
 }
 
 macro_rules! called_with {
-    ($form:expr, $call:expr, $begin_wait:expr) => {
+    ($form:expr, $caller:expr, $call:expr, $begin_wait:expr) => {
+        match ($caller, is_share($call)) {
+            (Caller::Thread, true) => $form.share_sync_with($begin_wait).reply(),
+            (Caller::Thread, false) => $form.lock_sync_with($begin_wait).reply(),
+            (caller, true) => polled_twice(caller, $form.share_async_with($begin_wait)),
+            (caller, false) => polled_twice(caller, $form.lock_async_with($begin_wait)),
+        }
+    };
+}
+
+macro_rules! asked {
+    ($form:expr, $call:expr) => {
         if is_share($call) {
-            $form.share_sync_with($begin_wait).reply()
+            $form.share_async()
         } else {
-            $form.lock_sync_with($begin_wait).reply()
+            $form.lock_async()
         }
     };
 }
@@ -65,7 +77,7 @@ fn is_share(call: &Call<'_>) -> bool {
     matches!(call.verb, "share" | "share_with")
 }
 
-impl<R: Wait + Clock + Drop> Form for LockFree<R> {
+impl<R: Wait + Clock + Drop> Form<Registration<Word>, Turn> for LockFree<R> {
     fn call(&self, call: &Call<'_>) -> Reply {
         match call.verb {
             "try_as" => self.try_witnessed(call.mode).0.reply(),
@@ -85,22 +97,15 @@ impl<R: Wait + Clock + Drop> Form for LockFree<R> {
         called_in_time!(self, call, span)
     }
 
-    fn call_with<F: FnOnce() + Drop>(&self, call: &Call<'_>, begin_wait: F) -> Reply {
-        called_with!(self, call, begin_wait)
+    fn call_with<F: FnOnce() + Drop>(
+        &self,
+        caller: Caller<'_>,
+        call: &Call<'_>,
+        begin_wait: F,
+    ) -> Reply {
+        called_with!(self, caller, call, begin_wait)
     }
 
-    // A lock that is taken, of which one place was left, has none then.
-    fn sleeps(&self, _calls: usize) -> bool {
-        let mut pager = Pager::new();
-        self.register_pager(&mut pager, Mode::Exclusive, true) != Ok(true)
-    }
-
-    fn let_all_go(&self) {
-        let _was_owned = self.release_lock() || self.poison_lock();
-    }
-}
-
-impl<R: Wait + Clock + Drop> Pages<Registration<Word>> for LockFree<R> {
     fn enroll<'s>(
         &'s self,
         pager: &mut Pager<'s, Self, Registration<Word>>,
@@ -109,69 +114,16 @@ impl<R: Wait + Clock + Drop> Pages<Registration<Word>> for LockFree<R> {
         self.register_pager(pager, call.mode, call.is_sync)
     }
 
-    // Its places don't say.
-    fn is_notified(&self, _pager: &Pager<'_, Self, Registration<Word>>) -> Option<bool> {
-        None
-    }
-
-    fn with_permit<'s>(
-        &'s self,
-        _call: &Call<'_>,
-        _span: Span,
-        _pager: &mut Pager<'s, Self, Registration<Word>>,
-    ) -> Reply {
-        unknown()
+    fn ask(&self, call: &Call<'_>) -> Acquiring<'_, Self, Turn> {
+        asked!(self, call)
     }
 }
 
-impl<R: Wait + Drop> Asks<lock_free_future::Turn, lock_free_future::Turn> for LockFree<R> {
-    fn ask_one(&self) -> Acquiring<'_, Self, lock_free_future::Turn> {
-        self.lock_async()
-    }
-
-    fn ask_many(&self, _call: &Call<'_>) -> Acquiring<'_, Self, lock_free_future::Turn> {
-        self.share_async()
-    }
-
-    fn ask_one_with<F: FnOnce() + Drop>(
-        &self,
-        begin_wait: F,
-    ) -> AcquiringWith<'_, Self, lock_free_future::Turn, F> {
-        self.lock_async_with(begin_wait)
-    }
-
-    fn ask_many_with<F: FnOnce() + Drop>(
-        &self,
-        _call: &Call<'_>,
-        begin_wait: F,
-    ) -> AcquiringWith<'_, Self, lock_free_future::Turn, F> {
-        self.share_async_with(begin_wait)
-    }
-
-    fn is_many(call: &Call<'_>) -> bool {
-        is_share(call)
-    }
-}
-
-// What a call that waited for a turn tells by the number of its answer: a grant, or poison.
-fn numbered(told: Result<bool, Full>) -> Reply {
-    match told {
-        Ok(true) => number(0),
-        Ok(false) => number(2),
-        Err(full) => full.reply(),
-    }
-}
-
-// It has no calls with receipts, and answers the ones that take by its plain ones; there is none for a wait mode.
-impl<R: Wait + Clock + Drop> Form for Threaded<R> {
+impl<R: Wait + Clock + Drop> Form<Ticket, ThreadedTurn> for Threaded<R> {
     fn call(&self, call: &Call<'_>) -> Reply {
-        match (call.verb, call.mode) {
-            ("try_as", Mode::Exclusive) => self.try_lock().reply(),
-            ("try_as", _) => self.try_share().reply(),
-            ("take_witnessed", Mode::Exclusive) => numbered(self.lock_sync()),
-            ("take_witnessed", _) => numbered(self.share_sync()),
-            ("notified", _) => number(self.counts().notified()),
-            ("parked", _) => number(self.counts().parked()),
+        match call.verb {
+            "notified" => number(self.counts().notified()),
+            "parked" => number(self.counts().parked()),
             _ => called!(self, call),
         }
     }
@@ -180,20 +132,15 @@ impl<R: Wait + Clock + Drop> Form for Threaded<R> {
         called_in_time!(self, call, span)
     }
 
-    fn call_with<F: FnOnce() + Drop>(&self, call: &Call<'_>, begin_wait: F) -> Reply {
-        called_with!(self, call, begin_wait)
+    fn call_with<F: FnOnce() + Drop>(
+        &self,
+        caller: Caller<'_>,
+        call: &Call<'_>,
+        begin_wait: F,
+    ) -> Reply {
+        called_with!(self, caller, call, begin_wait)
     }
 
-    fn sleeps(&self, calls: usize) -> bool {
-        self.counts().parked() >= calls
-    }
-
-    fn let_all_go(&self) {
-        let _was_owned = self.release_lock() || self.poison_lock();
-    }
-}
-
-impl<R: Wait + Clock + Drop> Pages<Ticket> for Threaded<R> {
     fn enroll<'s>(
         &'s self,
         pager: &mut Pager<'s, Self, Ticket>,
@@ -206,41 +153,7 @@ impl<R: Wait + Clock + Drop> Pages<Ticket> for Threaded<R> {
         slot_of(pager).map(|slot| self.counts().is_notified(slot))
     }
 
-    fn with_permit<'s>(
-        &'s self,
-        _call: &Call<'_>,
-        _span: Span,
-        _pager: &mut Pager<'s, Self, Ticket>,
-    ) -> Reply {
-        unknown()
-    }
-}
-
-impl<R: Wait + Drop> Asks<threaded_future::Turn, threaded_future::Turn> for Threaded<R> {
-    fn ask_one(&self) -> Acquiring<'_, Self, threaded_future::Turn> {
-        self.lock_async()
-    }
-
-    fn ask_many(&self, _call: &Call<'_>) -> Acquiring<'_, Self, threaded_future::Turn> {
-        self.share_async()
-    }
-
-    fn ask_one_with<F: FnOnce() + Drop>(
-        &self,
-        begin_wait: F,
-    ) -> AcquiringWith<'_, Self, threaded_future::Turn, F> {
-        self.lock_async_with(begin_wait)
-    }
-
-    fn ask_many_with<F: FnOnce() + Drop>(
-        &self,
-        _call: &Call<'_>,
-        begin_wait: F,
-    ) -> AcquiringWith<'_, Self, threaded_future::Turn, F> {
-        self.share_async_with(begin_wait)
-    }
-
-    fn is_many(call: &Call<'_>) -> bool {
-        is_share(call)
+    fn ask(&self, call: &Call<'_>) -> Acquiring<'_, Self, ThreadedTurn> {
+        asked!(self, call)
     }
 }
