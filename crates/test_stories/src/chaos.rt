@@ -31,31 +31,17 @@ const ALL: usize = 1_000;
 // What an owner of a lock adds to those inside; a sharer adds one.
 const ALONE: usize = 1_000_000;
 
-// The same call by another verb.
-fn with_verb(call: &Call<'static>, verb: &'static str) -> Call<'static> {
-    let mut call = *call;
-    call.verb = verb;
-    call
-}
-
-// The call that asks for the same and is timed.
-fn in_time(call: &Call<'static>) -> Call<'static> {
-    let verb = match call.verb {
-        "acquire" => "acquire_for",
-        "lock" => "lock_for",
-        _ => "share_for",
+// The timed call that asks for the same, and what gives back what it took.
+fn others_of(call: &Call<'static>) -> (Call<'static>, Call<'static>) {
+    let (in_time, end) = match call.verb {
+        "acquire" => ("acquire_for", "release"),
+        "lock" => ("lock_for", "release_lock"),
+        _ => ("share_for", "release_share"),
     };
-    with_verb(call, verb)
-}
-
-// What gives back what a call took.
-fn end_of(call: &Call<'static>) -> Call<'static> {
-    let verb = match call.verb {
-        "acquire" => "release",
-        "lock" => "release_lock",
-        _ => "release_share",
-    };
-    with_verb(call, verb)
+    let mut others = (*call, *call);
+    others.0.verb = in_time;
+    others.1.verb = end;
+    others
 }
 
 // What a call adds to those inside, and how many they may be before it.
@@ -160,7 +146,7 @@ fn has<S: Form<T, Q>, T: Drop, Q: Reads>(
     }
     tally.passes(weight);
     if weight.0 != ALONE || way.is_multiple_of(2) {
-        return is_granted(form.call(&end_of(turn)));
+        return is_granted(form.call(&others_of(turn).1));
     }
     let is_lowered = is_granted(form.call(&Call::of("downgrade")));
     tally.passes((1, ALONE - 1));
@@ -191,8 +177,8 @@ where
         1 => page(form, turn, How::Try),
         2 => page(form, turn, How::Async),
         3 => form.call(turn),
-        4 => form.call_in_time(&in_time(turn), Span::For(long)),
-        5 => until(rt, form, &in_time(turn).until(), long),
+        4 => form.call_in_time(&in_time, Span::For(long)),
+        5 => until(rt, form, &in_time.until(), long),
         6 => form.call_with(Caller::Thread, turn, || yield_now()),
         _ => blocked(rt, form.ask(turn)),
     }

@@ -145,37 +145,29 @@ f0 poll_away a; is_locked
 /// Threads that take in every way, while pagers are dropped: all ends, never are too many inside, and in the end all is back and each place is free. With a
 /// place for each none is refused; with one, whether one is refused is the schedule's.
 pub(crate) const CHAOS: &str = "\
-bounded 1000 1000 6 joining
+each 0 1
+bounded 1000 1000 6 spins N
 crowd 6 chaos 200 begins -> 200; crowd 6 ends; meetings -> 0; try 1000; room -> 6
 
-bounded 1000 1000 6 spinning
-crowd 6 chaos 200 begins -> 200; crowd 6 ends; meetings -> 0; try 1000; room -> 6
-
-bounded 1000 1000 1 spinning
+bounded 1000 1000 1 spins 1
 crowd 6 chaos_full 200 begins -> 200; crowd 6 ends; meetings -> 0; try 1000; room -> 1
 
-lock 6 joining
+each 0 1
+lock 6 spins N
 crowd 6 chaos 200 begins -> 200; crowd 6 ends; meetings -> 0; try_lock; room -> 6
 
-lock 6 spinning
-crowd 6 chaos 200 begins -> 200; crowd 6 ends; meetings -> 0; try_lock; room -> 6
-
-lock 1 spinning
+lock 1 spins 1
 crowd 6 chaos_full 200 begins -> 200; crowd 6 ends; meetings -> 0; try_lock; room -> 1
 ";
 
 /// Threads that stamp their turns: who has joined the queue is passed by no later call.
 pub(crate) const STAMPS: &str = "\
-lock 4 joining
+each 0 1
+lock 4 spins N
 crowd 4 stamped 100 begins -> 100; crowd 4 ends; passed -> 0
 
-lock 4 spinning
-crowd 4 stamped 100 begins -> 100; crowd 4 ends; passed -> 0
-
-bounded 1 1 4 joining
-crowd 4 stamped 100 begins -> 100; crowd 4 ends; passed -> 0
-
-bounded 1 1 4 spinning
+each 0 1
+bounded 1 1 4 spins N
 crowd 4 stamped 100 begins -> 100; crowd 4 ends; passed -> 0
 ";
 

@@ -7,7 +7,7 @@
 //!
 //! | Words | Mean |
 //! |---|---|
-//! | `semaphore 1 1 joining`, `spinning`, `yields 3` | calls join the queue at once, or look before it; waiters yield so often before they park |
+//! | `semaphore 1 1 spins 0`, `spins 1`, `yields 3` | calls join the queue at once, or look before it; waiters yield so often before they park |
 //! | `crowd 6 chaos 200 begins -> 200` | each of six threads takes 200 turns in every way, and so many end as they must ([`chaos`]); `chaos_full` where calls may find no room |
 //! | `meetings -> 0` | how often more were inside in these turns than there may be |
 //! | `crowd 4 stamped 100 begins -> 100` | each of four threads takes 100 turns, and stamps each ([`stamps`]), and so many are had; `passed` is how often one was passed by a later call |

@@ -23,15 +23,11 @@ lock 1
 lock_with release_lock; is_locked; share_with downgrade; release_share; release_share; is_free; try_lock; a lock_with release_lock
 a share_with release_lock; lock_with release_share; calls -> 5; t1 lock; release_lock; t1 ends; t1 lock_for 50s; release_lock; t1 ends; t1 share_for 50s
 release_lock; t1 ends; t1 lock_for 50s; release_share; t1 ends; t1 share; downgrade; t1 ends; release_share; is_shared; release_share; is_free; room -> 1
+try_lock; reg 0 exclusive sync; lock_with release_lock -> full; a share_with release_lock -> full; cancel 0; room -> 1
 # Poison is told to calls that wait.
 - try_lock; lock_with poison_lock -> false; calls -> 1; clear_poison; try_lock; a share_with poison_lock -> false; calls -> 2; clear_poison; try_lock
 t1 lock_for 50s -> false; poison_lock; t1 ends; clear_poison; try_lock; t1 share -> false; poison_lock; t1 ends; is_poisoned; clear_poison; room -> 1
 is_free
-# Calls that wait.
-- try_lock; room -> 1; lock_for 2ms -> timed_out; room -> 1; share_until 2ms -> timed_out; room -> 1; lock_with release_lock; room -> 1
-a lock_with release_lock; room -> 1; t1 lock_for 50s; release_lock; t1 ends; room -> 1; t1 lock; release_lock; t1 ends; room -> 1
-share_with downgrade; room -> 1; release_share; release_share; room -> 1; try_lock; reg 0 exclusive sync
-lock_with release_lock -> full; a share_with release_lock -> full; cancel 0; room -> 1
 # Poison is an answer.
 - try_lock; lock_with poison_lock -> false; clear_poison; room -> 1; try_lock; a lock_with poison_lock -> false; clear_poison; room -> 1; try_lock
 t1 share_for 50s -> false; poison_lock; t1 ends; clear_poison; room -> 1; try_lock; reg 0 shared sync; poison_lock; clear_poison; room -> 0

@@ -52,8 +52,8 @@ fn made_of(line: &Call<'_>, at: usize) -> Made {
         "yielding" => (yields_on, yields_on),
         "yielding_alone" => (NONE, yields_on),
         "yields" => (NONE, policy(0, u32::from(then.room(0)))),
-        "joining" => (NONE, WAITER),
-        _ if line.verb == "lock" || then.verb == "spinning" => (DEFAULT, WAITER),
+        "spins" if then.number() == Some(0) => (NONE, WAITER),
+        _ if line.verb == "lock" || then.verb == "spins" => (DEFAULT, WAITER),
         _ => (NONE, WAITER),
     };
     Made {
@@ -211,12 +211,10 @@ fn at_a_bound<'t, H: Host>(
 ) -> Outcome<'t> {
     match (bound, kind) {
         (1, Kind::LockFree) => at_free_permits::<H, 1>(rt, clock, permits, made, moves),
-        (2, Kind::LockFree) => at_free_permits::<H, 2>(rt, clock, permits, made, moves),
         (63, Kind::LockFree) => at_free_permits::<H, 63>(rt, clock, permits, made, moves),
         (1_000, Kind::LockFree) => at_free_permits::<H, 1_000>(rt, clock, permits, made, moves),
         (_, Kind::LockFree) => at_free_permits::<H, 65_535>(rt, clock, permits, made, moves),
         (1, _) => at_permits::<H, 1>(rt, clock, permits, made, moves),
-        (2, _) => at_permits::<H, 2>(rt, clock, permits, made, moves),
         (63, _) => at_permits::<H, 63>(rt, clock, permits, made, moves),
         (1_000, _) => at_permits::<H, 1_000>(rt, clock, permits, made, moves),
         _ => at_permits::<H, 65_535>(rt, clock, permits, made, moves),

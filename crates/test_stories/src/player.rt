@@ -139,31 +139,26 @@ impl<'s, H: Host, S: Form<T, Q> + Sync + Drop, T: Drop + Send, Q: Reads> Player<
 
     // Makes a call at the form.
     fn at_form(&mut self, call: &Call<'_>) -> Reply {
+        let (form, stage) = (self.form, self.stage);
+        let count = call.number().unwrap_or(0);
         match call.verb {
             verb if verb.ends_with("_with") => self.with_callback(Caller::Thread, call),
-            "room" => room_of(self.rt.alloc(), self.form).map_or(unknown(), number),
-            "try_shares" => shared(self.form, call.number().unwrap_or(0)),
+            "room" => room_of(self.rt.alloc(), form).map_or(unknown(), number),
+            "try_shares" => shared(form, count),
             "clock" | "late" | "leap" | "pause" | "rests" | "read" | "asleep" => {
                 self.at_clock(call)
             }
-            "calls" => number(self.stage.calls.load(Ordering::SeqCst)),
-            "meetings" => number(self.stage.tally.meetings.load(Ordering::SeqCst)),
-            "passed" => number(self.stage.log.passed()),
-            "chaos" | "chaos_full" | "stamped" | "race" | "disturb" => self.rounds(call),
+            "calls" => number(stage.calls.load(Ordering::SeqCst)),
+            "chaos" | "chaos_full" => {
+                number(chaos::rounds(self.rt, form, &stage.tally, self.thread, call))
+            }
+            "meetings" => number(stage.tally.meetings.load(Ordering::SeqCst)),
+            "stamped" => number(stamps::turns(form, &stage.log, self.thread, count)),
+            "passed" => number(stage.log.passed()),
+            "race" => number(races::in_time(form, &stage.tally, count)),
+            "disturb" => number(races::beside(form, &stage.tally)),
             _ => self.in_time(call),
         }
-    }
-
-    // Makes many calls, of which other threads make some beside it; how many were answered as they must be.
-    fn rounds(&self, call: &Call<'_>) -> Reply {
-        let stage = self.stage;
-        let rounds = call.number().unwrap_or(0);
-        number(match call.verb {
-            "stamped" => stamps::turns(self.form, &stage.log, self.thread, rounds),
-            "race" => races::in_time(self.form, &stage.tally, rounds),
-            "disturb" => races::beside(self.form, &stage.tally),
-            _ => chaos::rounds(self.rt, self.form, &stage.tally, self.thread, call),
-        })
     }
 
     // Sets the clock, or waits for what is seen of it or of the form.
@@ -206,7 +201,7 @@ impl<'s, H: Host, S: Form<T, Q> + Sync + Drop, T: Drop + Send, Q: Reads> Player<
         let begun = Instant::now(self.rt);
         let span = span_of(self.clock, self.stage.start, call, long);
         let answer = self.at_span(call, span);
-        if answer.is("timed_out") && self.clock.is_real() && is_early(self.rt, begun, long) {
+        if answer.is("timed_out") && self.clock.is_real && is_early(self.rt, begun, long) {
             return word(ReplyWord::Early);
         }
         answer

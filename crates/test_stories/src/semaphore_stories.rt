@@ -13,13 +13,6 @@ acquire_with 64 release 64 -> false; a acquire_with release -> full; a acquire_w
 permit_for 2ms -> full; permit_until 2ms forget -> full; reg 0 1 sync -> full; registered 0 -> false; reg 0 64 sync -> false; f0 acquire
 f0 poll a -> full; f0 ended; f0 poll a -> pending; a woken; calls -> 0; available -> 0; room -> 0; release 10; available -> 10
 
-# Timed calls.
-semaphore 4 1
-acquire_for 2ms; acquire_until 2ms; acquire_for 1 2ms; acquire_until 1 2ms; acquire_for 2ms -> timed_out; acquire_until 2ms -> timed_out
-acquire_for 2 2ms -> timed_out; acquire_until 2 2ms -> timed_out; acquire_for 0 2ms; permit_for 2ms forget -> timed_out; permit_until 2ms -> timed_out
-available -> 0; t1 acquire_for 3 50s; release 3; t1 ends; t1 acquire_until 2 50s; release 2; t1 ends; t1 acquire 1; release 1; t1 ends; available -> 0
-release; available -> 1; room -> 1
-
 # Permits give themselves back.
 semaphore 1 1
 - take_permit -> 0; available -> 1; try_permit -> 0; available -> 1; permit_for 2ms -> 0; available -> 1; permit_until 2ms -> 0; available -> 1
@@ -70,12 +63,6 @@ f0 ended; f0 acquire 63; f0 poll a -> pending; f0 ended -> false; a woken -> fal
 a woken; a acquire_with release; calls -> 1; a acquire_with 5 release 5; calls -> 2; acquire_with release; acquire_with 60 release 60
 acquire_with 0 release 0; calls -> 4; available -> 0; room -> 1
 
-# A bound of its own.
-bounded 2 5 1
-available -> 2; release -> false; try 3 -> false; acquire 3 -> false; acquire_for 3 2ms -> false; acquire 2; is_closed; acquire 3 -> false
-acquire_until 3 2ms -> false; acquire_for 2ms -> timed_out; acquire_until 2 2ms -> timed_out; permit_for 2ms -> timed_out; release 3 -> false
-release 2; available -> 2; take_permit -> 1; acquire 2; available -> 0
-
 # More than there are, with no room.
 semaphore 0 0
 acquire 64 -> false; reg 0 64 async -> false; f0 acquire 64; f0 poll a -> false; f0 ended; a acquire_with 64 release 64 -> false; calls -> 0
@@ -92,7 +79,7 @@ b woken -> false; c woken; poll 0 a; available -> 0
 f1 acquire; f1 poll c -> pending; f1 poll c -> pending; f1 poll c -> pending; c woken -> false; release; c woken; f1 poll c; available -> 0
 # Timed calls that are late.
 - room -> 1; acquire_for 2ms -> timed_out; room -> 1; acquire_until 2ms -> timed_out; room -> 1; acquire_for 3 2ms -> timed_out; room -> 1
-acquire_until 3 2ms -> timed_out; room -> 1; permit_for 2ms -> timed_out; room -> 1; permit_until 2ms forget -> timed_out; room -> 1
+acquire_until 3 2ms -> timed_out; room -> 1; permit_for 2ms -> timed_out; room -> 1; permit_until 2ms forget -> timed_out; room -> 1; acquire_for 0 2ms; available -> 0; room -> 1
 # Calls that are granted once they wait.
 - t1 acquire_for 3 50s; release 3; t1 ends; room -> 1; t1 acquire_until 1 50s; release 1; t1 ends; room -> 1; t1 acquire 2; release 2; t1 ends
 room -> 1; acquire_with release
