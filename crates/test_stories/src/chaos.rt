@@ -84,7 +84,7 @@ impl Tally {
     }
 }
 
-/// The rounds of one thread: how many ended as they must. A call is told that there is no room only where the row says that there may be none.
+/// The rounds of one thread: how many ended as they must. A call is full only where the row says that there may be no room.
 pub(crate) fn rounds<H, S: Form<T, Q>, T: Drop, Q: Reads>(
     rt: &H,
     form: &S,

@@ -26,7 +26,7 @@ pub(crate) enum Caller<'c> {
     Nobody,
 }
 
-/// A runtime on which stories are told.
+/// A runtime on which stories are played.
 pub(crate) trait Host: Wait + Clock + Threads + Sync + RandomSource + AllocGlobal {}
 
 impl<H: Wait + Clock + Threads + Sync + RandomSource + AllocGlobal> Host for H {}

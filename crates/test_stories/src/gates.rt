@@ -74,9 +74,9 @@ impl<R: Wait + Clock + Drop> Form<Ticket, Passing> for Gate<R> {
     }
 }
 
-// What a timed call tells.
-fn entered(told: Result<TimedEntry, Full>) -> Reply {
-    match told {
+// What a timed call answers.
+fn entered(answer: Result<TimedEntry, Full>) -> Reply {
+    match answer {
         Ok(TimedEntry::Passed(state)) => state.granted(),
         Ok(TimedEntry::Refused(error)) => error.reply(),
         Ok(TimedEntry::Late) => word(ReplyWord::TimedOut),

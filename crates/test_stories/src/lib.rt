@@ -1,7 +1,7 @@
 //! Stories of the forms and their futures: what each answers, in which order waiters are granted and woken, and that no place is lost.
 //!
 //! A story is a paragraph of text in the language of the program `saa-run` (`test_language::language`), one player makes its moves ([`player`]), and a row that
-//! is answered otherwise is printed with its line, what it expects and what was answered. A story is told at the threaded form and at the lock-free one, so
+//! is answered otherwise is printed with its line, what it expects and what was answered. A story is played at the threaded form and at the lock-free one, so
 //! that both answer the same; what only one of them has, or answers so, is in stories of its own. In a paragraph with dashes each of these begins a story,
 //! which goes on from the lines above the first dash. These words are of this crate alone:
 //!

@@ -1,4 +1,4 @@
-//! Stories are told at new forms: what their first lines make, and the first row that is answered otherwise.
+//! Stories are played at new forms: what their first lines make, and the first row that is answered otherwise.
 
 ghost use Rattle.std.specs.Prelude.{◌<◌};
 
@@ -18,7 +18,7 @@ use std::thread::{self, Threads};
 use std::time::Instant;
 use test_language::language::{Call, Move, Time, moves_for, numbers_of};
 
-/// Which form of a primitive a story is told at.
+/// Which form of a primitive a story is played at.
 #[derive(Clone, Copy, Debug, Eq, PartialEq)]
 pub(crate) enum Kind {
     LockFree,
@@ -221,7 +221,7 @@ fn at_a_bound<'t, H: Host>(
     }
 }
 
-// The first row of a story that is answered otherwise at this kind of form, where it is told for this number. It begins with the head of its paragraph.
+// The first row of a story that is answered otherwise at this kind of form, where it is played for this number. It begins with the head of its paragraph.
 fn first_row<'t, H: Host>(
     rt: &H,
     kind: Kind,

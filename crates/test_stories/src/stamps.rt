@@ -1,7 +1,7 @@
 //! Order by a shared clock: no later call overtakes one that has joined the queue.
 //!
-//! Threads take turns, by pagers and by calls that block. Each stamps when its call began, when it was told that it is registered, and when it had its turn.
-//! A call that began after another one was told has its turn after that one, whatever the spin policy: a call that spins is in no queue, and overtakes
+//! Threads take turns, by pagers and by calls that block. Each stamps when its call began, when it was registered, and when it had its turn.
+//! A call that began after another one was registered has its turn after that one, whatever the spin policy: a call that spins is in no queue, and overtakes
 //! nobody who is.
 
 use crate::forms::{Form, Reads};

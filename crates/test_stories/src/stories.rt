@@ -1,4 +1,4 @@
-//! The stories are told: each at both forms of its primitive, or at the one that it speaks of.
+//! The stories are played: each at both forms of its primitive, or at the one that it speaks of.
 
 use crate::forms::Host;
 use crate::played::Kind::{self, LockFree, Threaded, Until};
@@ -113,7 +113,7 @@ fn timed_calls_end_in_time(rt: HostRuntime) -> Result<(), Fail> {
     Ok(())
 }
 
-// The player itself: a row that is answered otherwise is told with its line, what it expects and what was answered, also where another thread is answered.
+// The player itself: a row that is answered otherwise is found with its line, what it expects and what was answered, also where another thread is answered.
 static WRONG: [(&str, &str, &str, ReplyWord); 3] = [
     (
         "semaphore 1 0\ntry 0; try; try",
