@@ -5,11 +5,11 @@
 pub(crate) const AT_BOTH: &str = "\
 # With no room a call that needn't wait works, and one that has to is full.
 semaphore 10 0
-bound -> 63; acquire; acquire 3; acquire_for 2ms; acquire_until 1 2ms; acquire_with release; acquire_with 1 release 1
-a acquire_with release; reg 0 1 sync; poll_sync 0; available -> 0; acquire 0; acquire -> full; acquire 1 -> full; acquire 64 -> false
-acquire_for 2ms -> full; acquire_until 2ms -> full; acquire_for 2 2ms -> full; acquire_until 63 2ms -> full
-acquire_for 64 2ms -> false; acquire_until 64 2ms -> false; acquire_with release -> full; acquire_with 2 release 2 -> full
-acquire_with 64 release 64 -> false; a acquire_with release -> full; a acquire_with 2 release 2 -> full; take_permit -> full; try_permit -> timed_out
+bound -> 63; acquire; acquire 3; acquire_for 2ms; acquire_until 1 2ms; acquire_with release; acquire_with 1 release 1; a acquire_with release
+reg 0 1 sync; poll_sync 0; available -> 0; acquire 0; acquire -> full; acquire 1 -> full; acquire 64 -> false; acquire_for 2ms -> full
+acquire_until 2ms -> full; acquire_for 2 2ms -> full; acquire_until 63 2ms -> full; acquire_for 64 2ms -> false; acquire_until 64 2ms -> false
+acquire_with release -> full; acquire_with 2 release 2 -> full; acquire_with 64 release 64 -> false; a acquire_with 64 release 64 -> false; f1 acquire 64
+f1 poll b -> false; f1 ended; a acquire_with release -> full; a acquire_with 2 release 2 -> full; take_permit -> full; try_permit -> timed_out
 permit_for 2ms -> full; permit_until 2ms forget -> full; reg 0 1 sync -> full; registered 0 -> false; reg 0 64 sync -> false; f0 acquire
 f0 poll a -> full; f0 ended; f0 poll a -> pending; a woken; calls -> 0; available -> 0; room -> 0; release 10; available -> 10
 
@@ -63,14 +63,8 @@ f0 ended; f0 acquire 63; f0 poll a -> pending; f0 ended -> false; a woken -> fal
 a woken; a acquire_with release; calls -> 1; a acquire_with 5 release 5; calls -> 2; acquire_with release; acquire_with 60 release 60
 acquire_with 0 release 0; calls -> 4; available -> 0; room -> 1
 
-# More than there are, with no room.
-semaphore 0 0
-acquire 64 -> false; reg 0 64 async -> false; f0 acquire 64; f0 poll a -> false; f0 ended; a acquire_with 64 release 64 -> false; calls -> 0
-
-# More than there are, while all places are out.
-semaphore 0 1
-- reg 0 1 async; acquire 64 -> false; f0 acquire 64; f0 poll a -> false; room -> 0
 # The last task that polled is woken.
+semaphore 0 1
 - f0 acquire; f0 poll a -> pending; f0 poll b -> pending; a calm; b woken -> false; release; a woken -> false; b woken; f0 poll a
 # A pager's too, which one future after another polls.
 reg 0 1 async; poll 0 a -> pending; poll 0 b -> pending; poll 0 b -> pending; poll 0 c -> pending; a calm; b calm; release; a woken -> false
@@ -79,16 +73,17 @@ b woken -> false; c woken; poll 0 a; available -> 0
 f1 acquire; f1 poll c -> pending; f1 poll c -> pending; f1 poll c -> pending; c woken -> false; release; c woken; f1 poll c; available -> 0
 # Timed calls that are late.
 - room -> 1; acquire_for 2ms -> timed_out; room -> 1; acquire_until 2ms -> timed_out; room -> 1; acquire_for 3 2ms -> timed_out; room -> 1
-acquire_until 3 2ms -> timed_out; room -> 1; permit_for 2ms -> timed_out; room -> 1; permit_until 2ms forget -> timed_out; room -> 1; acquire_for 0 2ms; available -> 0; room -> 1
+acquire_until 3 2ms -> timed_out; room -> 1; permit_for 2ms -> timed_out; room -> 1; permit_until 2ms forget -> timed_out; room -> 1; acquire_for 0 2ms
+available -> 0; room -> 1
 # Calls that are granted once they wait.
 - t1 acquire_for 3 50s; release 3; t1 ends; room -> 1; t1 acquire_until 1 50s; release 1; t1 ends; room -> 1; t1 acquire 2; release 2; t1 ends
 room -> 1; acquire_with release
 room -> 1; acquire_with 2 release 2; room -> 1; a acquire_with release; room -> 1; a acquire_with 4 release 4; room -> 1; calls -> 4; available -> 0
 # Calls that are full.
-- reg 0 1 sync; room -> 0; acquire -> full; acquire 2 -> full; acquire_for 2ms -> full; acquire_until 1 2ms -> full
-acquire_with release -> full; acquire_with 0 release 0 -> full; a acquire_with release -> full
-a acquire_with 1 release 1 -> full; reg 1 1 async -> full; reg 1 1 sync -> full; f0 acquire; f0 poll a -> full; f0 drop; take_permit -> full
-calls -> 0; room -> 0; try_poll 0 -> not_ready; release; try_poll 0; available -> 0; room -> 1
+- reg 0 1 sync; room -> 0; acquire -> full; acquire 2 -> full; acquire_for 2ms -> full; acquire_until 1 2ms -> full; acquire_with release -> full
+acquire_with 0 release 0 -> full; a acquire_with release -> full; a acquire_with 1 release 1 -> full; reg 1 1 async -> full; reg 1 1 sync -> full
+f0 acquire; f0 poll a -> full; f0 drop; f1 acquire 64; f1 poll a -> false; acquire 64 -> false; take_permit -> full; calls -> 0; room -> 0
+try_poll 0 -> not_ready; release; try_poll 0; available -> 0; room -> 1
 # Above the bound, where it joins nothing.
 acquire 64 -> false; acquire_for 64 2ms -> false; reg 0 64 sync -> false; f0 acquire 64; f0 poll a -> false; room -> 1
 # Pagers.
