@@ -14,7 +14,7 @@ use saa_core_waits::spin_policy::{DEFAULT, NONE, SpinPolicy};
 use saa_sync::testing::{WAITER, form_of};
 use saa_word_lock_free::lock::Lock as LockFreeLock;
 use saa_word_lock_free::semaphore::SemaphoreOf as LockFree;
-use std::thread::{self, Threads};
+use std::thread;
 use std::time::Instant;
 use test_language::language::{Call, Move, Time, moves_for, numbers_of};
 
