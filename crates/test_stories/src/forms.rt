@@ -1,5 +1,10 @@
 //! A form as stories call it: any primitive, threaded or lock-free.
 
+mod barriers;
+mod gates;
+mod locks;
+mod semaphores;
+
 use futures::test::MockTask;
 use saa_core_spec::request::Full;
 use saa_core_waits::{Acquiring, AnswerReader, Pager, Pends, Timed};

@@ -18,25 +18,11 @@
 #![tactic(auto)]
 
 #[cfg(test)]
-mod barrier_stories;
-#[cfg(test)]
-mod barriers;
-#[cfg(test)]
 mod chaos;
 #[cfg(test)]
 mod clock;
 #[cfg(test)]
-mod crowd_stories;
-#[cfg(test)]
 mod forms;
-#[cfg(test)]
-mod gate_stories;
-#[cfg(test)]
-mod gates;
-#[cfg(test)]
-mod lock_stories;
-#[cfg(test)]
-mod locks;
 #[cfg(test)]
 mod parts;
 #[cfg(test)]
@@ -46,10 +32,6 @@ mod player;
 #[cfg(test)]
 mod races;
 #[cfg(test)]
-mod semaphore_stories;
-#[cfg(test)]
-mod semaphores;
-#[cfg(test)]
 mod stamps;
 #[cfg(test)]
 mod stories;
@@ -57,8 +39,6 @@ mod stories;
 mod threads;
 #[cfg(test)]
 mod timed_guards;
-#[cfg(test)]
-mod timed_stories;
 #[cfg(test)]
 mod trials;
 #[cfg(test)]

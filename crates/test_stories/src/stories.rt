@@ -1,12 +1,16 @@
 //! The stories are played: each at both forms of its primitive, or at the one that it speaks of.
 
+mod barrier_stories;
+mod crowd_stories;
+mod gate_stories;
+mod lock_stories;
+mod semaphore_stories;
+mod timed_stories;
+
 use crate::forms::Host;
 use crate::played::Kind::{self, LockFree, Threaded, Until};
 use crate::played::first_failed;
 use crate::player::Outcome;
-use crate::{
-    barrier_stories, crowd_stories, gate_stories, lock_stories, semaphore_stories, timed_stories,
-};
 use std::test::Fail;
 use test_asserts::same;
 use test_language::language::Failed;
