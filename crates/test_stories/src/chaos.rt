@@ -168,11 +168,13 @@ where
     } else {
         Duration::from_micros(kind as u64)
     };
-    match if turn.verb != "reg" {
+    let in_time = others_of(turn).0;
+    let way = if turn.verb != "reg" {
         kind % 8
     } else {
         kind % 3
-    } {
+    };
+    match way {
         0 => page(form, turn, How::Sync),
         1 => page(form, turn, How::Try),
         2 => page(form, turn, How::Async),
