@@ -38,10 +38,11 @@ fn others_of(call: &Call<'static>) -> (Call<'static>, Call<'static>) {
         "lock" => ("lock_for", "release_lock"),
         _ => ("share_for", "release_share"),
     };
-    let mut others = (*call, *call);
-    others.0.verb = in_time;
-    others.1.verb = end;
-    others
+    let mut timed = *call;
+    timed.verb = in_time;
+    let mut ended = *call;
+    ended.verb = end;
+    (timed, ended)
 }
 
 // What a call adds to those inside, and how many they may be before it.

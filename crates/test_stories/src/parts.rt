@@ -39,16 +39,31 @@ impl Tasks {
 
 /// The pagers of a story.
 #[derive(Drop)]
-pub(crate) struct Pagers<'s, S: Timed<T> + Drop, T: Drop>([Pager<'s, S, T>; 4]);
+pub(crate) struct Pagers<'s, S: Timed<T> + Drop, T: Drop> {
+    first: Pager<'s, S, T>,
+    second: Pager<'s, S, T>,
+    third: Pager<'s, S, T>,
+    fourth: Pager<'s, S, T>,
+}
 
 impl<'s, S: Timed<T, Result: Replies> + Drop, T: Drop> Pagers<'s, S, T> {
     pub(crate) fn new() -> Self {
-        Pagers([Pager::new(), Pager::new(), Pager::new(), Pager::new()])
+        Pagers {
+            first: Pager::new(),
+            second: Pager::new(),
+            third: Pager::new(),
+            fourth: Pager::new(),
+        }
     }
 
     /// This pager.
     pub(crate) fn get(&mut self, pager: usize) -> &mut Pager<'s, S, T> {
-        &mut self.0[pager % 4]
+        match pager {
+            0 => &mut self.first,
+            1 => &mut self.second,
+            2 => &mut self.third,
+            _ => &mut self.fourth,
+        }
     }
 
     /// Polls a pager by a call of its own.
@@ -134,15 +149,27 @@ pub(crate) fn polled_twice<S: Pends, Q: Reads, F: FnOnce() + Drop>(
 
 /// The futures of a story.
 #[derive(Drop)]
-pub(crate) struct Futures<'s, S: Pends + Drop, Q: Reads>([Option<Acquiring<'s, S, Q>>; 3]);
+pub(crate) struct Futures<'s, S: Pends + Drop, Q: Reads> {
+    first: Option<Acquiring<'s, S, Q>>,
+    second: Option<Acquiring<'s, S, Q>>,
+    third: Option<Acquiring<'s, S, Q>>,
+}
 
 impl<'s, S: Pends + Drop, Q: Reads> Futures<'s, S, Q> {
     pub(crate) fn new() -> Self {
-        Futures([None, None, None])
+        Futures {
+            first: None,
+            second: None,
+            third: None,
+        }
     }
 
     fn get(&mut self, future: usize) -> &mut Option<Acquiring<'s, S, Q>> {
-        &mut self.0[future % 3]
+        match future {
+            0 => &mut self.first,
+            1 => &mut self.second,
+            _ => &mut self.third,
+        }
     }
 
     /// Has this future in the place of the one that was there.

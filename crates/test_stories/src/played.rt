@@ -14,8 +14,8 @@ use saa_core_waits::spin_policy::{DEFAULT, NONE, SpinPolicy};
 use saa_sync::testing::{WAITER, form_of};
 use saa_word_lock_free::lock::Lock as LockFreeLock;
 use saa_word_lock_free::semaphore::SemaphoreOf as LockFree;
-use std::thread;
 use std::time::Instant;
+use std::{io, thread};
 use test_language::language::{Call, Move, Time, moves_for, numbers_of};
 
 /// Which form of a primitive a story is played at.
@@ -64,10 +64,11 @@ fn made_of(line: &Call<'_>, at: usize) -> Made {
 }
 
 // What the threads of a story find, side by side: so many others, and the story's own, which is the last.
-fn in_threads<'t, H, F>(rt: &H, others: usize, run: &F) -> Outcome<'t>
+fn in_threads<H, F, T>(rt: &H, others: usize, run: &F) -> io::Result<Option<T>>
 where
     H: Host,
-    F: Fn(usize) -> Outcome<'t> + Sync,
+    F: Fn(usize) -> io::Result<Option<T>> + Sync,
+    T: Drop + Send,
     requires callable { F.IsAlwaysCallable run.now }
 {
     let mut found = thread::map_indices(rt, rt.alloc(), others.saturating_add(1), run)?;

@@ -229,16 +229,6 @@ fn has_joined<S: Form<T, Q>, T: Drop, Q: Reads>(form: &S, calls: usize) -> bool 
     }
 }
 
-/// Waits until another thread's call sleeps.
-pub(crate) fn await_sleeper<S: Form<T, Q>, T: Drop, Q: Reads>(form: &S) {
-    for _look in 0..u64::MAX {
-        if has_joined(form, 1) {
-            return;
-        }
-        yield_now();
-    }
-}
-
 /// Gives all that waiters can want, where a story went wrong.
 pub(crate) fn let_all_go<S: Form<T, Q>, T: Drop, Q: Reads>(form: &S) {
     for verb in ["release_lock", "poison_lock", "open"] {

@@ -2,7 +2,6 @@
 
 use crate::forms::{Caller, Form, Span};
 use crate::parts::polled_twice;
-use crate::threads::await_sleeper;
 use saa_core_spec::request::Full;
 use saa_core_waits::{Acquiring, Pager};
 use saa_sync::future::ManyPermits as ThreadedPermits;
@@ -15,6 +14,7 @@ use saa_word_lock_free::semaphore::SemaphoreOf as LockFree;
 use saa_word_threads::semaphore::SemaphoreOf as Word;
 use std::sync::Wait;
 use std::sync::atomic::Ordering::SeqCst;
+use std::thread::yield_now;
 use std::time::Clock;
 use test_language::language::Call;
 use test_language::reply::{Replies, Reply, ReplyWord, number, unknown, word};
@@ -69,9 +69,19 @@ macro_rules! called_with {
     };
 }
 
-// A permit that goes, at once or once another call sleeps, or is forgotten; the pager is registered beside it.
+// Waits until another thread's call sleeps.
+fn await_sleeper<R: Wait + Drop, const MAX: usize>(form: &Threaded<R, MAX>) {
+    for _look in 0..u64::MAX {
+        if form.counts().parked() != 0 {
+            return;
+        }
+        yield_now();
+    }
+}
+
+// A permit that goes, at once or, where the form says how many sleep, once another call sleeps, or is forgotten; the pager is registered beside it.
 macro_rules! permitted {
-    ($form:expr, $call:expr, $span:expr, $pager:expr) => {{
+    ($form:expr, $call:expr, $span:expr, $pager:expr, $await_sleeper:expr) => {{
         let taken = match ($call.verb, $span) {
             ("take_permit" | "hold_permit", _) => $form.acquire_permit().map(Some),
             ("permit_for", Span::For(long)) => $form.acquire_permit_for(long),
@@ -85,7 +95,7 @@ macro_rules! permitted {
                     "pass_permit" => {
                         let _registered = $form.register_pager($pager, 1, true);
                     }
-                    "hold_permit" => await_sleeper($form),
+                    "hold_permit" => $await_sleeper,
                     _ => {}
                 }
                 if $call.then().verb == "forget" {
@@ -143,7 +153,7 @@ impl<R: Wait + Clock + Drop, const MAX: usize> Form<Registration<Word<MAX>>, Man
         span: Span,
         pager: &mut Pager<'s, Self, Registration<Word<MAX>>>,
     ) -> Reply {
-        permitted!(self, call, span, pager)
+        permitted!(self, call, span, pager, ())
     }
 
     fn ask(&self, call: &Call<'_>) -> Acquiring<'_, Self, ManyPermits> {
@@ -197,7 +207,7 @@ impl<R: Wait + Clock + Drop, const MAX: usize> Form<Ticket, ThreadedPermits> for
         span: Span,
         pager: &mut Pager<'s, Self, Ticket>,
     ) -> Reply {
-        permitted!(self, call, span, pager)
+        permitted!(self, call, span, pager, await_sleeper(self))
     }
 
     fn ask(&self, call: &Call<'_>) -> Acquiring<'_, Self, ThreadedPermits> {
