@@ -9,8 +9,8 @@ use std::time::{Clock, Duration};
 #[derive(Drop)]
 pub struct OnClock<R: Wait + Clock + Drop> {
     rt: R,
-    // Whether it shows the runtime's time.
-    is_real: bool,
+    /// Whether it shows the runtime's time.
+    pub(crate) is_real: bool,
     now: AtomicU64,
     // How much later each reading is than the last.
     step: u64,
@@ -40,11 +40,6 @@ impl<R: Wait + Clock + Drop> OnClock<R> {
         let mut clock = Self::new(rt, 0);
         clock.is_real = true;
         clock
-    }
-
-    /// Whether it shows the runtime's time.
-    pub fn is_real(&self) -> bool {
-        self.is_real
     }
 
     /// Sets the clock; at [`BROKEN`] it can't be read any more. The runtime's goes on as it does.

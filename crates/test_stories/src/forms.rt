@@ -1,10 +1,20 @@
 //! A form as stories call it: any primitive, threaded or lock-free.
 
+mod barriers;
+mod gates;
+mod locks;
+mod semaphores;
+
+use futures::test::MockTask;
 use saa_core_spec::request::Full;
-use saa_core_waits::{Acquiring, AcquiringWith, Pager, Pends, Timed};
-use std::time::{Duration, Instant};
+use saa_core_waits::{Acquiring, AnswerReader, Pager, Pends, Timed};
+use std::alloc::AllocGlobal;
+use std::random::RandomSource;
+use std::sync::Wait;
+use std::thread::Threads;
+use std::time::{Clock, Duration, Instant};
 use test_language::language::Call;
-use test_language::reply::Reply;
+use test_language::reply::{Replies, Reply, unknown};
 
 /// How long a timed call waits.
 #[derive(Clone, Copy)]
@@ -13,56 +23,62 @@ pub(crate) enum Span {
     Until(Instant),
 }
 
+/// Who makes a call with a callback: a thread, a task by a future, or nobody, where the future is dropped.
+#[derive(Clone, Copy)]
+pub(crate) enum Caller<'c> {
+    Thread,
+    Task(&'c MockTask),
+    Nobody,
+}
+
+/// A runtime on which stories are played.
+pub(crate) trait Host: Wait + Clock + Threads + Sync + RandomSource + AllocGlobal {}
+
+impl<H: Wait + Clock + Threads + Sync + RandomSource + AllocGlobal> Host for H {}
+
+/// A reader of futures' answers that reads them as replies.
+pub(crate) trait Reads: AnswerReader<Output: Replies, Error: Replies> {}
+
+impl<Q: AnswerReader<Output: Replies, Error: Replies>> Reads for Q {}
+
+/// A form whose pagers have registrations of the type `T`, and whose futures read answers by `Q`.
+///
 /// Each call is answered by what it replies, and `?` where it is none of this form.
-pub(crate) trait Form {
+pub(crate) trait Form<T: Drop, Q: Reads>: Timed<T, Result: Replies> + Pends {
     /// Readings, tries, releases, and calls that may block as long as they must.
     fn call(&self, call: &Call<'_>) -> Reply;
 
     /// Timed calls.
     fn call_in_time(&self, call: &Call<'_>, span: Span) -> Reply;
 
-    /// Calls that may block, with a callback.
-    fn call_with<F: FnOnce() + Drop>(&self, call: &Call<'_>, begin_wait: F) -> Reply
-        requires { F.pre begin_wait };
+    /// Makes a call that may block, or a future, with a callback; a future's task polls it once more where it is woken.
+    fn call_with<F: FnOnce() + Drop>(
+        &self,
+        caller: Caller<'_>,
+        call: &Call<'_>,
+        begin_wait: F,
+    ) -> Reply
+        requires callable { F.pre begin_wait }
+        requires always { (begin_wait : F) → F.pre begin_wait };
 
-    /// Whether so many calls of other threads have joined the queue.
-    fn sleeps(&self, calls: usize) -> bool;
-
-    /// Gives all that waiters can want, where a story went wrong.
-    fn let_all_go(&self);
-}
-
-/// A form at which pagers are registered, by registrations of the type `T`.
-pub(crate) trait Pages<T: Drop>: Timed<T> {
     /// Registers a pager for what is asked.
     fn enroll<'s>(&'s self, pager: &mut Pager<'s, Self, T>, call: &Call<'_>) -> Result<bool, Full>;
 
-    /// Whether the parker of a pager's slot is notified; nothing where it has none.
-    fn is_notified(&self, pager: &Pager<'_, Self, T>) -> Option<bool>;
+    /// Whether the parker of a pager's slot is notified; nothing where it has none, or the form doesn't say.
+    fn is_notified(&self, _pager: &Pager<'_, Self, T>) -> Option<bool> {
+        None
+    }
 
-    /// Takes a permit so, and tells how many are available until it goes; the pager may be registered for it meanwhile.
+    /// Takes a permit so, and answers how many are available until it goes; the pager may be registered for it meanwhile.
     fn with_permit<'s>(
         &'s self,
-        call: &Call<'_>,
-        span: Span,
-        pager: &mut Pager<'s, Self, T>,
-    ) -> Reply;
-}
+        _call: &Call<'_>,
+        _span: Span,
+        _pager: &mut Pager<'s, Self, T>,
+    ) -> Reply {
+        unknown()
+    }
 
-/// A form whose futures read answers in two ways: of one permit and of many, or of the lock alone and shared.
-pub(crate) trait Asks<One, Many>: Pends {
-    fn ask_one(&self) -> Acquiring<'_, Self, One>;
-
-    fn ask_many(&self, call: &Call<'_>) -> Acquiring<'_, Self, Many>;
-
-    fn ask_one_with<F: FnOnce() + Drop>(&self, begin_wait: F) -> AcquiringWith<'_, Self, One, F>;
-
-    fn ask_many_with<F: FnOnce() + Drop>(
-        &self,
-        call: &Call<'_>,
-        begin_wait: F,
-    ) -> AcquiringWith<'_, Self, Many, F>;
-
-    /// Whether a call asks in the second way.
-    fn is_many(call: &Call<'_>) -> bool;
+    /// Makes a future.
+    fn ask(&self, call: &Call<'_>) -> Acquiring<'_, Self, Q>;
 }

@@ -1,10 +1,10 @@
 //! What stories wait with at a form: tasks, pagers, and futures of one kind.
 
-use crate::forms::Span;
+use crate::forms::{Caller, Reads, Span};
 use futures::executor::block_on;
 use futures::test::MockTask;
 use saa_core_spec::polling::How;
-use saa_core_waits::{Acquiring, AcquiringWith, AnswerReader, Pager, Pends, Timed};
+use saa_core_waits::{Acquiring, AcquiringWith, Pager, Pends, Timed};
 use std::alloc::AllocGlobal;
 use std::io;
 use std::random::RandomSource;
@@ -15,28 +15,16 @@ use test_language::reply::{Replies, Reply, ReplyWord, unknown, word};
 
 /// The tasks of a story.
 #[derive(Drop)]
-pub(crate) struct Tasks {
-    first: MockTask,
-    second: MockTask,
-    third: MockTask,
-}
+pub(crate) struct Tasks([MockTask; 3]);
 
 impl Tasks {
     pub(crate) fn new<H: RandomSource + AllocGlobal>(rt: &H) -> io::Result<Tasks> {
-        Ok(Tasks {
-            first: MockTask::new(rt)?,
-            second: MockTask::new(rt)?,
-            third: MockTask::new(rt)?,
-        })
+        Ok(Tasks([MockTask::new(rt)?, MockTask::new(rt)?, MockTask::new(rt)?]))
     }
 
     /// This task.
     pub(crate) fn get(&self, task: usize) -> &MockTask {
-        match task {
-            0 => &self.first,
-            1 => &self.second,
-            _ => &self.third,
-        }
+        &self.0[task % 3]
     }
 
     /// Whether this task was woken since its last poll; or a poll of it that polls nothing.
@@ -58,10 +46,7 @@ pub(crate) struct Pagers<'s, S: Timed<T> + Drop, T: Drop> {
     fourth: Pager<'s, S, T>,
 }
 
-impl<'s, S: Timed<T> + Drop, T: Drop> Pagers<'s, S, T>
-where
-    S::Result: Replies,
-{
+impl<'s, S: Timed<T, Result: Replies> + Drop, T: Drop> Pagers<'s, S, T> {
     pub(crate) fn new() -> Self {
         Pagers {
             first: Pager::new(),
@@ -134,47 +119,43 @@ where
 }
 
 // One poll for a task, in a future of the pager that is made for it.
-fn polled_for<S: Timed<T>, T: Drop>(pager: &mut Pager<'_, S, T>, task: &MockTask) -> Reply
-where
-    S::Result: Replies,
-{
+fn polled_for<S: Timed<T, Result: Replies>, T: Drop>(
+    pager: &mut Pager<'_, S, T>,
+    task: &MockTask,
+) -> Reply {
     let mut poll = pager.poll_async();
     task.poll(&mut poll).reply()
 }
 
-/// What a future with a callback tells this task, which polls it once more where it is woken.
-pub(crate) fn polled_twice<S: Pends, Q: AnswerReader, F: FnOnce() + Drop>(
-    task: &MockTask,
+/// What a future with a callback answers a task, which polls it once more where it is woken; with no task it is dropped.
+pub(crate) fn polled_twice<S: Pends, Q: Reads, F: FnOnce() + Drop>(
+    caller: Caller<'_>,
     mut future: AcquiringWith<'_, S, Q, F>,
 ) -> Reply
-where
-    Q::Output: Replies,
-    Q::Error: Replies,
     requires { (begin_wait : F) → F.pre begin_wait }
 {
-    let mut told = task.poll(&mut future).reply();
-    if told.is("pending") && task.is_woken() {
-        told = task.poll(&mut future).reply();
+    let Caller::Task(task) = caller else {
+        return word(ReplyWord::Done);
+    };
+    let mut answer = task.poll(&mut future).reply();
+    if answer.is("pending") && task.is_woken() {
+        answer = task.poll(&mut future).reply();
     }
-    if future.has_ended() == told.is("pending") {
+    if future.has_ended() == answer.is("pending") {
         return unknown();
     }
-    told
+    answer
 }
 
-/// The futures of a story whose answers read in one way.
+/// The futures of a story.
 #[derive(Drop)]
-pub(crate) struct Futures<'s, S: Pends + Drop, Q: AnswerReader> {
+pub(crate) struct Futures<'s, S: Pends + Drop, Q: Reads> {
     first: Option<Acquiring<'s, S, Q>>,
     second: Option<Acquiring<'s, S, Q>>,
     third: Option<Acquiring<'s, S, Q>>,
 }
 
-impl<'s, S: Pends + Drop, Q: AnswerReader> Futures<'s, S, Q>
-where
-    Q::Output: Replies,
-    Q::Error: Replies,
-{
+impl<'s, S: Pends + Drop, Q: Reads> Futures<'s, S, Q> {
     pub(crate) fn new() -> Self {
         Futures {
             first: None,
@@ -183,7 +164,6 @@ where
         }
     }
 
-    // This future.
     fn get(&mut self, future: usize) -> &mut Option<Acquiring<'s, S, Q>> {
         match future {
             0 => &mut self.first,
@@ -192,15 +172,10 @@ where
         }
     }
 
-    /// Has this future, or none, in the place of the one that was there.
-    pub(crate) fn put(&mut self, name: usize, future: Option<Acquiring<'s, S, Q>>) -> Reply {
-        *self.get(name) = future;
+    /// Has this future in the place of the one that was there.
+    pub(crate) fn put(&mut self, name: usize, future: Acquiring<'s, S, Q>) -> Reply {
+        *self.get(name) = Some(future);
         word(ReplyWord::Done)
-    }
-
-    /// Whether there is this future.
-    pub(crate) fn has(&mut self, name: usize) -> bool {
-        self.get(name).is_some()
     }
 
     /// Makes a call at this future, if there is one.
@@ -245,9 +220,17 @@ where
         let Some(future) = self.get(name).take() else {
             return unknown();
         };
-        match block_on(rt, future) {
-            Ok(answer) => answer.reply(),
-            Err(_no_memory) => unknown(),
-        }
+        blocked(rt, future)
+    }
+}
+
+/// Awaits a future by an executor.
+pub(crate) fn blocked<H: Wait + RandomSource + AllocGlobal, S: Pends, Q: Reads>(
+    rt: &H,
+    future: Acquiring<'_, S, Q>,
+) -> Reply {
+    match block_on(rt, future) {
+        Ok(answer) => answer.reply(),
+        Err(_no_memory) => unknown(),
     }
 }

@@ -1,30 +1,24 @@
-//! Stories are told at new forms: what their first lines make, and the first row that is answered otherwise.
+//! Stories are played at new forms: what their first lines make, and the first row that is answered otherwise.
 
 ghost use Rattle.std.specs.Prelude.{◌<◌};
 
 use crate::clock::OnClock;
-use crate::forms::{Asks, Form, Pages};
-use crate::player::played;
-use crate::threads::{Stage, acted};
+use crate::forms::Host;
+use crate::player::{Outcome, part_of};
+use crate::threads::Stage;
 use saa_core::barrier::BarrierCore;
 use saa_core::gate::GateCore;
 use saa_core::lock::LockCore;
 use saa_core::semaphore::SemaphoreCoreOf;
-use saa_core_waits::AnswerReader;
 use saa_core_waits::spin_policy::{DEFAULT, NONE, SpinPolicy};
 use saa_sync::testing::{WAITER, form_of};
 use saa_word_lock_free::lock::Lock as LockFreeLock;
 use saa_word_lock_free::semaphore::SemaphoreOf as LockFree;
-use std::alloc::AllocGlobal;
-use std::io;
-use std::random::RandomSource;
-use std::sync::Wait;
-use std::thread::{self, Threads};
-use std::time::{Clock, Instant};
-use test_language::language::{Call, Failed, Move, Time, moves_for, numbers_of};
-use test_language::reply::Replies;
+use std::time::Instant;
+use std::{io, thread};
+use test_language::language::{Call, Move, Time, moves_for, numbers_of};
 
-/// Which form of a primitive a story is told at.
+/// Which form of a primitive a story is played at.
 #[derive(Clone, Copy, Debug, Eq, PartialEq)]
 pub(crate) enum Kind {
     LockFree,
@@ -41,32 +35,25 @@ struct Made {
     waiters: SpinPolicy,
 }
 
-// Looks on for longer than any test lasts, and yields on.
-const LOOKS_ON: SpinPolicy = SpinPolicy {
-    looks: u32::MAX,
-    yields: 0,
-};
-
-const YIELDS_ON: SpinPolicy = SpinPolicy {
-    looks: 0,
-    yields: u32::MAX,
-};
-
-const LOOKS_LONG: SpinPolicy = SpinPolicy {
-    looks: 1_000_000,
-    yields: 0,
-};
+fn policy(looks: u32, yields: u32) -> SpinPolicy {
+    SpinPolicy { looks, yields }
+}
 
 // How calls and waiters spin where the first line says so; the number at this place is the room.
 fn made_of(line: &Call<'_>, at: usize) -> Made {
-    let (calls, waiters) = match line.then().verb {
+    let then = line.then();
+    // Longer than any test lasts.
+    let (looks_on, yields_on) = (policy(u32::MAX, 0), policy(0, u32::MAX));
+    let (calls, waiters) = match then.verb {
         "sleepy" => (DEFAULT, NONE),
-        "looking" => (YIELDS_ON, NONE),
-        "awake" => (YIELDS_ON, LOOKS_ON),
-        "looking_long" => (YIELDS_ON, LOOKS_LONG),
-        "yielding" => (YIELDS_ON, YIELDS_ON),
-        "yielding_alone" => (NONE, YIELDS_ON),
-        _ if line.verb == "lock" => (DEFAULT, WAITER),
+        "looking" => (yields_on, NONE),
+        "awake" => (yields_on, looks_on),
+        "looking_long" => (yields_on, policy(1_000_000, 0)),
+        "yielding" => (yields_on, yields_on),
+        "yielding_alone" => (NONE, yields_on),
+        "yields" => (NONE, policy(0, u32::from(then.room(0)))),
+        "spins" if then.number() == Some(0) => (NONE, WAITER),
+        _ if line.verb == "lock" || then.verb == "spins" => (DEFAULT, WAITER),
         _ => (NONE, WAITER),
     };
     Made {
@@ -77,304 +64,176 @@ fn made_of(line: &Call<'_>, at: usize) -> Made {
 }
 
 // What the threads of a story find, side by side: so many others, and the story's own, which is the last.
-//
-// The threads are begun for each form by itself: the borrow checker covers none that a function begins for any form.
 fn in_threads<H, F, T>(rt: &H, others: usize, run: &F) -> io::Result<Option<T>>
 where
-    H: Threads + Sync + AllocGlobal,
+    H: Host,
     F: Fn(usize) -> io::Result<Option<T>> + Sync,
     T: Drop + Send,
     requires callable { F.IsAlwaysCallable run.now }
 {
     let mut found = thread::map_indices(rt, rt.alloc(), others.saturating_add(1), run)?;
     for _thread in 0..found.len() {
-        if let Some(told) = found.pop() {
-            let told = told?;
-            if told.is_some() {
-                return Ok(told);
+        if let Some(outcome) = found.pop() {
+            let outcome = outcome?;
+            if outcome.is_some() {
+                return Ok(outcome);
             }
         }
     }
     Ok(None)
 }
 
-// One thread's part of a story.
-fn part_of<'t, 's, H, S, T, One, Many>(
-    rt: &'s H,
-    clock: &'s OnClock<&'s H>,
-    form: &'s S,
-    stage: &Stage,
-    moves: &[Move<'t>],
-    thread: usize,
-) -> io::Result<Option<Failed<'t>>>
-where
-    H: Wait + Clock + Threads + Sync + RandomSource + AllocGlobal,
-    S: Form + Pages<T> + Asks<One, Many> + Sync + Drop,
-    S::Result: Replies,
-    T: Drop + Send,
-    One: AnswerReader,
-    Many: AnswerReader,
-    One::Output: Replies,
-    Many::Output: Replies,
-    One::Error: Replies,
-    Many::Error: Replies,
-{
-    if thread < stage.others() {
-        return Ok(acted(rt, clock, form, stage, moves, thread));
-    }
-    led(rt, clock, form, stage, moves)
-}
-
-// The story's own thread, which lets the others end.
-fn led<'t, 's, H, S, T, One, Many>(
-    rt: &'s H,
-    clock: &'s OnClock<&'s H>,
-    form: &'s S,
-    stage: &Stage,
-    moves: &[Move<'t>],
-) -> io::Result<Option<Failed<'t>>>
-where
-    H: Wait + Clock + Threads + Sync + RandomSource + AllocGlobal,
-    S: Form + Pages<T> + Asks<One, Many> + Sync + Drop,
-    S::Result: Replies,
-    T: Drop + Send,
-    One: AnswerReader,
-    Many: AnswerReader,
-    One::Output: Replies,
-    Many::Output: Replies,
-    One::Error: Replies,
-    Many::Error: Replies,
-{
-    let told = played(rt, clock, form, stage, moves);
-    if !matches!(told, Ok(None)) || stage.has_failed() {
-        stage.fail();
-        form.let_all_go();
-    }
-    stage.end();
-    told
+// The moves of a story at this form. The threads are begun for each form by itself: the borrow checker covers none that a function begins for any form.
+macro_rules! at_form {
+    ($rt:expr, $clock:expr, $form:expr, $moves:expr) => {{
+        let stage = Stage::new($rt.alloc(), Instant::now($clock)?, $moves)?;
+        match stage.others() {
+            0 => part_of($rt, $clock, &$form, &stage, $moves, 0),
+            others => in_threads(
+                $rt,
+                others,
+                &|thread| part_of($rt, $clock, &$form, &stage, $moves, thread),
+            ),
+        }
+    }};
 }
 
 // A story at a threaded semaphore of this bound.
-fn at_permits<'t, H, const MAX: usize>(
+fn at_permits<'t, H: Host, const MAX: usize>(
     rt: &H,
     clock: &OnClock<&H>,
     permits: usize,
     made: Made,
     moves: &[Move<'t>],
-) -> io::Result<Option<Failed<'t>>>
-where
-    H: Wait + Clock + Threads + Sync + RandomSource + AllocGlobal,
+) -> Outcome<'t>
     requires bound { 0 < MAX }
     requires narrow { MAX < 65536 }
 {
     let core = SemaphoreCoreOf::<MAX>::with_permits(rt.alloc(), permits, made.room)?;
     let form = form_of(clock, rt.alloc(), core, made.room, made.calls, made.waiters)?;
-    let stage = Stage::new(rt.alloc(), Instant::now(clock)?, moves)?;
-    match stage.others() {
-        0 => led(rt, clock, &form, &stage, moves),
-        others => in_threads(
-            rt,
-            others,
-            &|thread| part_of(rt, clock, &form, &stage, moves, thread),
-        ),
-    }
+    at_form!(rt, clock, form, moves)
 }
 
 // A story at a lock-free semaphore of this bound.
-fn at_free_permits<'t, H, const MAX: usize>(
+fn at_free_permits<'t, H: Host, const MAX: usize>(
     rt: &H,
     clock: &OnClock<&H>,
     permits: usize,
     made: Made,
     moves: &[Move<'t>],
-) -> io::Result<Option<Failed<'t>>>
-where
-    H: Wait + Clock + Threads + Sync + RandomSource + AllocGlobal,
+) -> Outcome<'t>
     requires bound { 0 < MAX }
     requires narrow { MAX < 65536 }
 {
-    let form = LockFree::<_, MAX>::with_permits(clock, rt.alloc(), permits, made.room)?;
-    let stage = Stage::new(rt.alloc(), Instant::now(clock)?, moves)?;
-    match stage.others() {
-        0 => led(rt, clock, &form, &stage, moves),
-        others => in_threads(
-            rt,
-            others,
-            &|thread| part_of(rt, clock, &form, &stage, moves, thread),
-        ),
-    }
+    let (room, calls) = (made.room, made.calls);
+    let form = LockFree::<_, MAX>::with_spin_policy(clock, rt.alloc(), permits, room, calls)?;
+    at_form!(rt, clock, form, moves)
 }
 
 // A story at a threaded lock.
-fn at_a_lock<'t, H>(
+fn at_a_lock<'t, H: Host>(
     rt: &H,
     clock: &OnClock<&H>,
-    line: &Call<'_>,
+    made: Made,
     moves: &[Move<'t>],
-) -> io::Result<Option<Failed<'t>>>
-where
-    H: Wait + Clock + Threads + Sync + RandomSource + AllocGlobal,
-{
-    let made = made_of(line, 0);
+) -> Outcome<'t> {
     let core = LockCore::new(rt.alloc(), made.room)?;
     let form = form_of(clock, rt.alloc(), core, made.room, made.calls, made.waiters)?;
-    let stage = Stage::new(rt.alloc(), Instant::now(clock)?, moves)?;
-    match stage.others() {
-        0 => led(rt, clock, &form, &stage, moves),
-        others => in_threads(
-            rt,
-            others,
-            &|thread| part_of(rt, clock, &form, &stage, moves, thread),
-        ),
-    }
-}
-
-// A story at a gate.
-fn at_a_gate<'t, H>(
-    rt: &H,
-    clock: &OnClock<&H>,
-    line: &Call<'_>,
-    moves: &[Move<'t>],
-) -> io::Result<Option<Failed<'t>>>
-where
-    H: Wait + Clock + Threads + Sync + RandomSource + AllocGlobal,
-{
-    let made = made_of(line, 0);
-    let core = GateCore::new(rt.alloc(), made.room)?;
-    let form = form_of(clock, rt.alloc(), core, made.room, NONE, made.waiters)?;
-    let stage = Stage::new(rt.alloc(), Instant::now(clock)?, moves)?;
-    match stage.others() {
-        0 => led(rt, clock, &form, &stage, moves),
-        others => in_threads(
-            rt,
-            others,
-            &|thread| part_of(rt, clock, &form, &stage, moves, thread),
-        ),
-    }
-}
-
-// A story at a barrier.
-fn at_a_barrier<'t, H>(
-    rt: &H,
-    clock: &OnClock<&H>,
-    line: &Call<'_>,
-    moves: &[Move<'t>],
-) -> io::Result<Option<Failed<'t>>>
-where
-    H: Wait + Clock + Threads + Sync + RandomSource + AllocGlobal,
-{
-    let made = made_of(line, 1);
-    let core = BarrierCore::with_count(rt.alloc(), line.number().unwrap_or(0), made.room)?;
-    let form = form_of(clock, rt.alloc(), core, made.room, NONE, made.waiters)?;
-    let stage = Stage::new(rt.alloc(), Instant::now(clock)?, moves)?;
-    match stage.others() {
-        0 => led(rt, clock, &form, &stage, moves),
-        others => in_threads(
-            rt,
-            others,
-            &|thread| part_of(rt, clock, &form, &stage, moves, thread),
-        ),
-    }
+    at_form!(rt, clock, form, moves)
 }
 
 // A story at a lock-free lock.
-fn at_a_free_lock<'t, H>(
+fn at_a_free_lock<'t, H: Host>(
     rt: &H,
     clock: &OnClock<&H>,
-    line: &Call<'_>,
+    made: Made,
     moves: &[Move<'t>],
-) -> io::Result<Option<Failed<'t>>>
-where
-    H: Wait + Clock + Threads + Sync + RandomSource + AllocGlobal,
-{
-    let form = LockFreeLock::new(clock, rt.alloc(), line.room(0))?;
-    let stage = Stage::new(rt.alloc(), Instant::now(clock)?, moves)?;
-    match stage.others() {
-        0 => led(rt, clock, &form, &stage, moves),
-        others => in_threads(
-            rt,
-            others,
-            &|thread| part_of(rt, clock, &form, &stage, moves, thread),
-        ),
-    }
+) -> Outcome<'t> {
+    let form = LockFreeLock::with_spin_policy(clock, rt.alloc(), made.room, made.calls)?;
+    at_form!(rt, clock, form, moves)
+}
+
+// A story at a gate.
+fn at_a_gate<'t, H: Host>(
+    rt: &H,
+    clock: &OnClock<&H>,
+    made: Made,
+    moves: &[Move<'t>],
+) -> Outcome<'t> {
+    let core = GateCore::new(rt.alloc(), made.room)?;
+    let form = form_of(clock, rt.alloc(), core, made.room, NONE, made.waiters)?;
+    at_form!(rt, clock, form, moves)
+}
+
+// A story at a barrier of this size.
+fn at_a_barrier<'t, H: Host>(
+    rt: &H,
+    clock: &OnClock<&H>,
+    size: usize,
+    made: Made,
+    moves: &[Move<'t>],
+) -> Outcome<'t> {
+    let core = BarrierCore::with_count(rt.alloc(), size, made.room)?;
+    let form = form_of(clock, rt.alloc(), core, made.room, NONE, made.waiters)?;
+    at_form!(rt, clock, form, moves)
 }
 
 // A story at the form that its first line makes.
-fn at_first_line<'t, H>(
+fn at_first_line<'t, H: Host>(
     rt: &H,
     kind: Kind,
     line: &Call<'_>,
     moves: &[Move<'t>],
-) -> io::Result<Option<Failed<'t>>>
-where
-    H: Wait + Clock + Threads + Sync + RandomSource + AllocGlobal,
-{
+) -> Outcome<'t> {
     let clock = match line.time {
         Time::Lasts(_) => OnClock::new(rt, line.time.nanos()),
         _ => OnClock::real(rt),
     };
     let [first, second, _] = line.numbers();
     match (line.verb, kind) {
-        ("semaphore", Kind::Threaded | Kind::Until) => {
-            at_permits::<H, 63>(rt, &clock, first, made_of(line, 1), moves)
-        }
-        ("semaphore", Kind::LockFree) => {
-            at_free_permits::<H, 63>(rt, &clock, first, made_of(line, 1), moves)
-        }
-        ("bounded", _) => at_a_bound(rt, &clock, kind, line, second, made_of(line, 2), moves),
-        ("lock", Kind::LockFree) => at_a_free_lock(rt, &clock, line, moves),
-        ("lock", _) => at_a_lock(rt, &clock, line, moves),
-        ("gate", _) => at_a_gate(rt, &clock, line, moves),
-        _ => at_a_barrier(rt, &clock, line, moves),
+        ("semaphore", _) => at_a_bound(rt, &clock, kind, 63, first, made_of(line, 1), moves),
+        ("bounded", _) => at_a_bound(rt, &clock, kind, first, second, made_of(line, 2), moves),
+        ("lock", Kind::LockFree) => at_a_free_lock(rt, &clock, made_of(line, 0), moves),
+        ("lock", _) => at_a_lock(rt, &clock, made_of(line, 0), moves),
+        ("gate", _) => at_a_gate(rt, &clock, made_of(line, 0), moves),
+        _ => at_a_barrier(rt, &clock, first, made_of(line, 1), moves),
     }
 }
 
-// A story at a semaphore of another bound.
-fn at_a_bound<'t, H>(
+// A story at a semaphore of this bound.
+fn at_a_bound<'t, H: Host>(
     rt: &H,
     clock: &OnClock<&H>,
     kind: Kind,
-    line: &Call<'_>,
+    bound: usize,
     permits: usize,
     made: Made,
     moves: &[Move<'t>],
-) -> io::Result<Option<Failed<'t>>>
-where
-    H: Wait + Clock + Threads + Sync + RandomSource + AllocGlobal,
-{
-    match (line.number(), kind) {
-        (Some(1), Kind::Threaded | Kind::Until) => at_permits::<H, 1>(
-            rt, clock, permits, made, moves,
-        ),
-        (Some(2), Kind::Threaded | Kind::Until) => at_permits::<H, 2>(
-            rt, clock, permits, made, moves,
-        ),
-        (Some(1_000), Kind::Threaded | Kind::Until) => at_permits::<H, 1_000>(
-            rt, clock, permits, made, moves,
-        ),
-        (_, Kind::Threaded | Kind::Until) => at_permits::<H, 65_535>(
-            rt, clock, permits, made, moves,
-        ),
-        (Some(1), Kind::LockFree) => at_free_permits::<H, 1>(rt, clock, permits, made, moves),
-        (Some(1_000), Kind::LockFree) => {
-            at_free_permits::<H, 1_000>(rt, clock, permits, made, moves)
-        }
-        (Some(2), Kind::LockFree) => at_free_permits::<H, 2>(rt, clock, permits, made, moves),
+) -> Outcome<'t> {
+    match (bound, kind) {
+        (1, Kind::LockFree) => at_free_permits::<H, 1>(rt, clock, permits, made, moves),
+        (63, Kind::LockFree) => at_free_permits::<H, 63>(rt, clock, permits, made, moves),
+        (1_000, Kind::LockFree) => at_free_permits::<H, 1_000>(rt, clock, permits, made, moves),
         (_, Kind::LockFree) => at_free_permits::<H, 65_535>(rt, clock, permits, made, moves),
+        (1, _) => at_permits::<H, 1>(rt, clock, permits, made, moves),
+        (63, _) => at_permits::<H, 63>(rt, clock, permits, made, moves),
+        (1_000, _) => at_permits::<H, 1_000>(rt, clock, permits, made, moves),
+        _ => at_permits::<H, 65_535>(rt, clock, permits, made, moves),
     }
 }
 
-// The first row of a story that is answered otherwise at this kind of form, where it is told for this number.
-fn first_row<'t, H>(
+// The first row of a story that is answered otherwise at this kind of form, where it is played for this number. It begins with the head of its paragraph.
+fn first_row<'t, H: Host>(
     rt: &H,
     kind: Kind,
+    head: &'t str,
     story: &'t str,
     each: usize,
-) -> io::Result<Option<Failed<'t>>>
-where
-    H: Wait + Clock + Threads + Sync + RandomSource + AllocGlobal,
-{
-    let mut moves = moves_for(rt.alloc(), story, each)?;
+) -> Outcome<'t> {
+    let mut moves = moves_for(rt.alloc(), head, each)?;
+    for row in moves_for(rt.alloc(), story, each)?.iter() {
+        moves.push(*row)?;
+    }
     if kind == Kind::Until {
         for row in &mut moves {
             row.call = row.call.until();
@@ -386,18 +245,28 @@ where
     }
 }
 
-/// The first row of these stories that is answered otherwise at this kind of form.
-pub(crate) fn first_failed<'t, H>(
+// The same of a paragraph for this number: of one story, or of one for each line that begins with a dash.
+fn first_of_paragraph<'t, H: Host>(
     rt: &H,
     kind: Kind,
-    stories: &'t str,
-) -> io::Result<Option<Failed<'t>>>
-where
-    H: Wait + Clock + Threads + Sync + RandomSource + AllocGlobal,
-{
-    for story in stories.split("\n\n") {
-        for each in numbers_of(rt.alloc(), story)? {
-            let failed = first_row(rt, kind, story, each)?;
+    paragraph: &'t str,
+    each: usize,
+) -> Outcome<'t> {
+    let (head, stories) = paragraph.split_once("\n- ").unwrap_or((paragraph, ""));
+    for story in stories.split("\n- ") {
+        let failed = first_row(rt, kind, head, story, each)?;
+        if failed.is_some() {
+            return Ok(failed);
+        }
+    }
+    Ok(None)
+}
+
+/// The first row of these stories that is answered otherwise at this kind of form.
+pub(crate) fn first_failed<'t, H: Host>(rt: &H, kind: Kind, stories: &'t str) -> Outcome<'t> {
+    for paragraph in stories.split("\n\n") {
+        for each in numbers_of(rt.alloc(), paragraph)? {
+            let failed = first_of_paragraph(rt, kind, paragraph, each)?;
             if failed.is_some() {
                 return Ok(failed);
             }

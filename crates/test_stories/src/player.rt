@@ -1,16 +1,15 @@
-//! The player: makes the moves of a story at one form, row by row, and finds the first that is answered otherwise than its row says.
+//! The player: makes the moves of one thread of a story at one form, row by row, and finds the first that is answered otherwise than its row says.
 
 use crate::clock::{BROKEN, OnClock};
-use crate::forms::{Asks, Form, Pages, Span};
-use crate::parts::{Futures, Pagers, Tasks, polled_twice};
-use crate::threads::Stage;
-use futures::test::MockTask;
-use saa_core_waits::{AnswerReader, Pager, Timed};
-use std::alloc::{AllocError, AllocGlobal, Global};
-use std::random::RandomSource;
+use crate::forms::{Caller, Form, Host, Reads, Span};
+use crate::parts::{Futures, Pagers, Tasks};
+use crate::threads::{Stage, has_waiter, is_made_by, let_all_go};
+use crate::{chaos, races, stamps};
+use saa_core_waits::{Pager, Timed};
+use std::alloc::{AllocError, Global};
 use std::sync::Wait;
-use std::sync::atomic::{AtomicUsize, Ordering};
-use std::thread::{self, Threads};
+use std::sync::atomic::Ordering;
+use std::thread::{self, Threads, yield_now};
 use std::time::{Clock, Duration, Instant};
 use std::{io, mem};
 use test_language::language::{Call, Failed, Move, Subject, Time};
@@ -20,7 +19,7 @@ use test_language::reply::{Replies, Reply, ReplyWord, number, unknown, word};
 const WAITERS: usize = 7;
 
 // How late the clock is set for the time of all to be up, in nanoseconds.
-pub(crate) const LATE: u64 = 1_000_000_000;
+const LATE: u64 = 1_000_000_000;
 
 // How long a pause is, and a look whether the clock rests, in milliseconds; how long the player sleeps between two looks, in microseconds; and how often
 // one that sleeps may wake for no reason meanwhile, and read its clock.
@@ -35,121 +34,93 @@ const FEW: u64 = 8;
 // What callbacks add to their count where they don't find that the caller waits.
 const WRONG: usize = 100;
 
-// The times that `any` stands for: of none, of a while, of an hour, and the longest; the last of an instant is an hour away.
-fn spans() -> [Duration; 4] {
-    [
-        Duration::ZERO,
-        Duration::from_millis(10),
-        hour(),
-        Duration::MAX,
-    ]
-}
+/// The first row that was answered otherwise, where none was refused memory.
+pub(crate) type Outcome<'t> = io::Result<Option<Failed<'t>>>;
 
 fn hour() -> Duration {
     Duration::from_secs(3_600)
 }
 
-// A form with all that a story needs beside it.
+// A thread of a story with all that it needs beside its form.
 #[derive(Drop)]
-struct Player<'s, H, C, S, T, One, Many>
-where
-    S: Form + Pages<T> + Asks<One, Many> + Drop,
-    T: Drop,
-    One: AnswerReader,
-    Many: AnswerReader,
-{
-    rt: H,
-    clock: C,
-    start: Instant,
+struct Player<'s, H: Host, S: Form<T, Q> + Drop, T: Drop, Q: Reads> {
+    rt: &'s H,
+    clock: &'s OnClock<&'s H>,
     form: &'s S,
+    stage: &'s Stage,
+    // Its number; that of the story's own is behind those of all others.
+    thread: usize,
     tasks: Tasks,
     pagers: Pagers<'s, S, T>,
-    ones: Futures<'s, S, One>,
-    many: Futures<'s, S, Many>,
-    calls: AtomicUsize,
+    futures: Futures<'s, S, Q>,
 }
 
-impl<'s, H, S, T, One, Many> Player<'s, &'s H, &'s OnClock<&'s H>, S, T, One, Many>
-where
-    H: Wait + Clock + Threads + Sync + RandomSource + AllocGlobal,
-    S: Form + Pages<T> + Asks<One, Many> + Sync + Drop,
-    S::Result: Replies,
-    T: Drop + Send,
-    One: AnswerReader,
-    Many: AnswerReader,
-    One::Output: Replies,
-    Many::Output: Replies,
-    One::Error: Replies,
-    Many::Error: Replies,
-{
-    fn new(rt: &'s H, clock: &'s OnClock<&'s H>, start: Instant, form: &'s S) -> io::Result<Self> {
-        Ok(Player {
-            rt,
-            clock,
-            start,
-            form,
-            tasks: Tasks::new(rt)?,
-            pagers: Pagers::new(),
-            ones: Futures::new(),
-            many: Futures::new(),
-            calls: AtomicUsize::new(0),
-        })
+impl<'s, H: Host, S: Form<T, Q> + Sync + Drop, T: Drop + Send, Q: Reads> Player<'s, H, S, T, Q> {
+    // Makes a row's move in its turn; nothing where it is another thread's, or isn't answered yet.
+    fn turn(&mut self, at: usize, row: &Move<'_>) -> Option<Reply> {
+        if self.thread < self.stage.others() {
+            return self.turn_of_another(at, row);
+        }
+        match row.call.subject {
+            Subject::Thread(_) | Subject::Crowd => {
+                self.stage.turn_of(self.rt, self.form, at, &row.call)
+            }
+            _ if matches!(row.call.verb, "in_turn" | "in_turn_awake") => {
+                Some(self.stage.in_turn(self.rt, self.form, at, &row.call))
+            }
+            _ => Some(self.answer(&row.call)),
+        }
     }
 
-    // Makes the move of a row.
+    // The same on another thread. The story may have a lock's last place for a moment each time that it looks whether this call has it.
+    fn turn_of_another(&mut self, at: usize, row: &Move<'_>) -> Option<Reply> {
+        let (rt, stage) = (self.rt, self.stage);
+        if !is_made_by(&row.call, self.thread)
+            || matches!(row.call.verb, "ends" | "ended" | "joined")
+            || !stage.awaits_turn(rt, self.thread, at)
+        {
+            return None;
+        }
+        for _ in rt.forever() {
+            let answer = self.answer(&row.call);
+            if !answer.is("full") || row.wanted == Some("full") {
+                return Some(answer);
+            }
+            yield_now();
+        }
+        unreachable!()
+    }
+
+    // Makes a move.
     fn answer(&mut self, call: &Call<'_>) -> Reply {
         match call.subject {
             Subject::Future(name) => self.at_future(name, call),
             Subject::Task(task) if matches!(call.verb, "woken" | "calm") => {
                 self.tasks.answer(task, call)
             }
-            Subject::Task(task) => with_task(self.tasks.get(task), self.begins(call)),
+            Subject::Task(task) => self.with_callback(Caller::Task(self.tasks.get(task)), call),
             _ => self.at_pager(call),
         }
     }
 
-    // What the callback of a call needs.
-    fn begins<'w>(&'w self, call: &'w Call<'w>) -> Begins<'w, S, &'s H> {
-        Begins {
-            form: self.form,
-            clock: self.clock,
-            calls: &self.calls,
-            call,
-        }
+    // Makes a call whose callback counts, and makes a call that lets the caller go on.
+    fn with_callback(&self, caller: Caller<'_>, call: &Call<'_>) -> Reply {
+        let (form, clock, stage) = (self.form, self.clock, self.stage);
+        form.call_with(caller, call, || begin_wait(form, clock, stage, call))
     }
 
     // Makes a call at a future, or makes one.
     fn at_future(&mut self, name: usize, call: &Call<'_>) -> Reply {
+        let form = self.form;
         match call.verb {
-            "poll" | "ended" | "drop" if self.ones.has(name) => {
-                self.ones.answer(&self.tasks, name, call)
-            }
-            "poll" | "ended" | "drop" => self.many.answer(&self.tasks, name, call),
-            "poll_away" if self.ones.has(name) => {
-                self.ones
+            "poll" | "ended" | "drop" => self.futures.answer(&self.tasks, name, call),
+            "poll_away" => {
+                self.futures
                     .polled_away(self.rt, self.tasks.get(call.task), name)
             }
-            "poll_away" => self
-                .many
-                .polled_away(self.rt, self.tasks.get(call.task), name),
-            "block_on" if self.ones.has(name) => self.ones.blocked(self.rt, name),
-            "block_on" => self.many.blocked(self.rt, name),
-            "acquire_with" | "lock_with" | "share_with" | "enter_with" | "wait_with" => {
-                unpolled(self.begins(call))
-            }
-            _ => self.make(name, call),
-        }
-    }
-
-    // Makes a future in the place of the one that was there.
-    fn make(&mut self, name: usize, call: &Call<'_>) -> Reply {
-        let form = self.form;
-        if S::is_many(call) {
-            self.ones.put(name, None);
-            self.many.put(name, Some(form.ask_many(call)))
-        } else {
-            self.many.put(name, None);
-            self.ones.put(name, Some(form.ask_one()))
+            "block_on" => self.futures.blocked(self.rt, name),
+            verb if verb.ends_with("_with") => self.with_callback(Caller::Nobody, call),
+            _ => self.futures.put(name, form.ask(call)),
         }
     }
 
@@ -162,22 +133,30 @@ where
             "registered" | "poll" | "cancel" | "drop" => self.pagers.answer(&self.tasks, call),
             "block_on" => self.pagers.blocked(self.rt, call),
             "drop_away" => dropped_away(self.rt, self.pagers.get(call.pager())),
-            "calls" => number(self.calls.load(Ordering::SeqCst)),
             _ => self.at_form(call),
         }
     }
 
     // Makes a call at the form.
     fn at_form(&mut self, call: &Call<'_>) -> Reply {
+        let (form, stage) = (self.form, self.stage);
+        let count = call.number().unwrap_or(0);
         match call.verb {
-            "acquire_with" | "lock_with" | "share_with" | "enter_with" | "wait_with" => {
-                with_callback(self.begins(call))
-            }
-            "room" => room_of(self.rt.alloc(), self.form).map_or(unknown(), number),
-            "try_shares" => shared(self.form, call.number().unwrap_or(0)),
+            verb if verb.ends_with("_with") => self.with_callback(Caller::Thread, call),
+            "room" => room_of(self.rt.alloc(), form).map_or(unknown(), number),
+            "try_shares" => shared(form, count),
             "clock" | "late" | "leap" | "pause" | "rests" | "read" | "asleep" => {
                 self.at_clock(call)
             }
+            "calls" => number(stage.calls.load(Ordering::SeqCst)),
+            "chaos" | "chaos_full" => {
+                number(chaos::rounds(self.rt, form, &stage.tally, self.thread, call))
+            }
+            "meetings" => number(stage.tally.meetings.load(Ordering::SeqCst)),
+            "stamped" => number(stamps::turns(form, &stage.log, self.thread, count)),
+            "passed" => number(stage.log.passed()),
+            "race" => number(races::in_time(form, &stage.tally, count)),
+            "disturb" => number(races::beside(form, &stage.tally)),
             _ => self.in_time(call),
         }
     }
@@ -213,36 +192,19 @@ where
         }
     }
 
-    // Makes a call that may be timed: once, or at each time.
+    // Makes a call that may be timed: by the runtime's clock it isn't answered early that time is up.
     fn in_time(&mut self, call: &Call<'_>) -> Reply {
-        match call.time {
-            Time::Untimed => self.at_span(call, Span::For(Duration::ZERO)),
-            Time::Lasts(long) => self.for_long(call, long),
-            Time::Any => self.at_each(call),
-        }
-    }
-
-    // Makes a call at each time; what it answers, or the first other answer.
-    fn at_each(&mut self, call: &Call<'_>) -> Reply {
-        let first = self.for_long(call, Duration::ZERO);
-        for long in spans() {
-            let told = self.for_long(call, long);
-            if told != first {
-                return told;
-            }
-        }
-        first
-    }
-
-    // Makes a call that waits so long: by the runtime's clock it isn't told early that time is up.
-    fn for_long(&mut self, call: &Call<'_>, long: Duration) -> Reply {
+        let long = match call.time {
+            Time::Lasts(long) => long,
+            _ => Duration::ZERO,
+        };
         let begun = Instant::now(self.rt);
-        let span = span_of(self.clock, self.start, call, long);
-        let told = self.at_span(call, span);
-        if told.is("timed_out") && self.clock.is_real() && is_early(self.rt, begun, long) {
+        let span = span_of(self.clock, self.stage.start, call, long);
+        let answer = self.at_span(call, span);
+        if answer.is("timed_out") && self.clock.is_real && is_early(self.rt, begun, long) {
             return word(ReplyWord::Early);
         }
-        told
+        answer
     }
 
     // Makes a call that lasts so long if it is timed.
@@ -250,9 +212,12 @@ where
         let form = self.form;
         match call.verb {
             "poll_for" | "poll_until" => self.pagers.answer_in_time(call, span),
-            "take_permit" | "try_permit" | "permit_for" | "permit_until" | "pass_permit" => {
-                form.with_permit(call, span, self.pagers.get(call.pager()))
-            }
+            "take_permit"
+            | "hold_permit"
+            | "try_permit"
+            | "permit_for"
+            | "permit_until"
+            | "pass_permit" => form.with_permit(call, span, self.pagers.get(call.pager())),
             _ => plain(form, call, span),
         }
     }
@@ -266,8 +231,8 @@ fn is_early(rt: &impl Clock, begun: io::Result<Instant>, long: Duration) -> bool
     begun.checked_add(long).is_none_or(|end| now < end)
 }
 
-/// The span of a call that begins now, or then where the clock can't be read. An instant is an hour away at most.
-pub(crate) fn span_of(clock: &impl Clock, start: Instant, call: &Call<'_>, long: Duration) -> Span {
+// The span of a call that begins now, or then where the clock can't be read. An instant is an hour away at most.
+fn span_of(clock: &impl Clock, start: Instant, call: &Call<'_>, long: Duration) -> Span {
     if !call.verb.ends_with("_until") {
         return Span::For(long);
     }
@@ -275,13 +240,13 @@ pub(crate) fn span_of(clock: &impl Clock, start: Instant, call: &Call<'_>, long:
     Span::Until(now.checked_add(long.min(hour())).unwrap_or(now))
 }
 
-/// Makes a call that needs nothing of a story.
-pub(crate) fn plain<S: Form>(form: &S, call: &Call<'_>, span: Span) -> Reply {
-    let told = form.call(call);
-    if told.is("?") {
+// Makes a call that needs nothing of a story.
+fn plain<S: Form<T, Q>, T: Drop, Q: Reads>(form: &S, call: &Call<'_>, span: Span) -> Reply {
+    let answer = form.call(call);
+    if answer.is("?") {
         return form.call_in_time(call, span);
     }
-    told
+    answer
 }
 
 // Whether the clock is hardly read for a while, since the call that is parked sleeps.
@@ -291,85 +256,35 @@ fn rests<H: Wait + Clock, R: Wait + Clock + Drop>(rt: &H, clock: &OnClock<R>) ->
     clock.readings().saturating_sub(before) <= FEW
 }
 
-// What a callback needs.
-#[derive(Drop)]
-struct Begins<'w, S, R: Wait + Clock + Drop> {
-    form: &'w S,
-    clock: &'w OnClock<R>,
-    calls: &'w AtomicUsize,
-    call: &'w Call<'w>,
-}
-
-// What a callback does: it counts that the caller waits, makes a call, and counts what that answers.
-fn begin_wait<S, T, R>(begins: Begins<'_, S, R>)
-where
-    S: Form + Pages<T>,
-    T: Drop,
-    R: Wait + Clock + Drop,
-{
-    let Begins {
-        form,
-        clock,
-        calls,
-        call,
-    } = begins;
+// What a callback does: it counts that the caller waits, makes a call, and counts what that answers. One that has nothing to do lets others run.
+fn begin_wait<S: Form<T, Q>, T: Drop, Q: Reads, R: Wait + Clock + Drop>(
+    form: &S,
+    clock: &OnClock<R>,
+    stage: &Stage,
+    call: &Call<'_>,
+) {
+    let then = call.then();
+    if matches!(then.verb, "" | "joins") {
+        stage.joined.fetch_add(1, Ordering::SeqCst);
+        yield_now();
+        return;
+    }
     let is_waiting = has_waiter(form) && !is_passed(form);
-    calls.fetch_add(if is_waiting { 1 } else { WRONG }, Ordering::SeqCst);
-    if call.then().verb == "late" {
+    stage
+        .calls
+        .fetch_add(if is_waiting { 1 } else { WRONG }, Ordering::SeqCst);
+    if then.verb == "late" {
         clock.set(LATE);
         return;
     }
-    let answered = form.call(&call.then()).number().unwrap_or(0);
-    calls.fetch_add(answered.saturating_mul(1000), Ordering::SeqCst);
-}
-
-// Makes a call whose callback counts, and makes a call that lets the caller go on.
-fn with_callback<S, T, R>(begins: Begins<'_, S, R>) -> Reply
-where
-    S: Form + Pages<T>,
-    T: Drop,
-    R: Wait + Clock + Drop,
-{
-    let (form, call) = (begins.form, begins.call);
-    form.call_with(call, move || begin_wait(begins))
-}
-
-// The same by a future that this task polls.
-fn with_task<S, T, One, Many, R>(task: &MockTask, begins: Begins<'_, S, R>) -> Reply
-where
-    S: Form + Pages<T> + Asks<One, Many>,
-    T: Drop,
-    One: AnswerReader,
-    Many: AnswerReader,
-    One::Output: Replies,
-    Many::Output: Replies,
-    One::Error: Replies,
-    Many::Error: Replies,
-    R: Wait + Clock + Drop,
-{
-    let (form, call) = (begins.form, begins.call);
-    let callback = move || begin_wait(begins);
-    if S::is_many(call) {
-        polled_twice(task, form.ask_many_with(call, callback))
-    } else {
-        polled_twice(task, form.ask_one_with(callback))
-    }
-}
-
-// A future with a callback is made and dropped.
-fn unpolled<S, T, One, Many, R>(begins: Begins<'_, S, R>) -> Reply
-where
-    S: Form + Pages<T> + Asks<One, Many>,
-    T: Drop,
-    R: Wait + Clock + Drop,
-{
-    let form = begins.form;
-    drop(form.ask_one_with(move || begin_wait(begins)));
-    word(ReplyWord::Done)
+    let answered = form.call(&then).number().unwrap_or(0);
+    stage
+        .calls
+        .fetch_add(answered.saturating_mul(1000), Ordering::SeqCst);
 }
 
 // So many tries to share: how many are granted.
-fn shared<S: Form>(form: &S, count: usize) -> Reply {
+fn shared<S: Form<T, Q>, T: Drop, Q: Reads>(form: &S, count: usize) -> Reply {
     let mut granted = 0usize;
     for _try in 0..count {
         if form.call(&Call::of("try_share")).is("ok") {
@@ -391,37 +306,19 @@ where
     word(ReplyWord::Dropped)
 }
 
-// Whether there is a waiter: then a semaphore doesn't even grant 0 permits, and a lock that is taken, of which one place was left, has none. A gate and a
-// barrier don't say.
-fn has_waiter<S: Form + Pages<T>, T: Drop>(form: &S) -> bool {
-    if form.call(&Call::of("is_open")).is("?") && form.call(&Call::of("is_free")).is("?") {
-        return true;
-    }
-    let told = form.call(&Call::with("try", 0));
-    if !told.is("?") {
-        return told.is("false");
-    }
-    let mut pager = Pager::new();
-    form.enroll(&mut pager, &Call::of("reg")) != Ok(true)
-}
-
 // Whether a shared lock can be shared more: not while there is a waiter.
-fn is_passed<S: Form>(form: &S) -> bool {
+fn is_passed<S: Form<T, Q>, T: Drop, Q: Reads>(form: &S) -> bool {
     form.call(&Call::of("is_shared")).is("true") && form.call(&Call::of("try_share")).is("ok")
 }
 
-/// How many more could wait now, 7 at most. It takes all that is available meanwhile, and is for a time at which no other call is made.
-pub(crate) fn room_of<S, T>(alloc: Global, form: &S) -> Result<usize, AllocError>
-where
-    S: Form + Pages<T>,
-    T: Drop,
-{
+// How many more could wait now, 7 at most. It takes all that is available meanwhile, and is for a time at which no other call is made.
+fn room_of<S: Form<T, Q>, T: Drop, Q: Reads>(alloc: Global, form: &S) -> Result<usize, AllocError> {
     let available = form.call(&Call::of("available")).number();
     let (take, give) = match available {
         Some(count) => (Call::with("try", count), Call::with("release", count)),
         None => (Call::of("try_lock"), Call::of("release_lock")),
     };
-    let told = form.call(&take);
+    let taken = form.call(&take);
     let mut pagers = Vec::new(alloc);
     for _waiter in 0..WAITERS {
         let mut pager = Pager::new();
@@ -432,50 +329,63 @@ where
     }
     let room = pagers.len();
     drop(pagers);
-    if told.is("true") || told.is("ok") {
+    if taken.is("true") || taken.is("ok") {
         form.call(&give);
     }
     Ok(room)
 }
 
-/// Makes the moves of a story but those of other threads, which it gives their turn.
-pub(crate) fn played<'t, 's, H, S, T, One, Many>(
+// The first row of a thread's moves that is answered otherwise.
+fn moved<'t, H: Host, S: Form<T, Q> + Sync + Drop, T: Drop + Send, Q: Reads>(
+    player: &mut Player<'_, H, S, T, Q>,
+    moves: &[Move<'t>],
+) -> Option<Failed<'t>> {
+    for (at, row) in moves.iter().enumerate() {
+        if let Some(answer) = player.turn(at, row) {
+            let failed = Failed::unless(row, answer);
+            if failed.is_some() {
+                return failed;
+            }
+        }
+        if player.stage.has_failed() {
+            return None;
+        }
+        player.stage.ends(player.thread, at);
+    }
+    None
+}
+
+/// One thread's part of a story. The story's own lets the others end.
+pub(crate) fn part_of<'t, 's, H: Host, S: Form<T, Q> + Sync + Drop, T: Drop + Send, Q: Reads>(
     rt: &'s H,
     clock: &'s OnClock<&'s H>,
     form: &'s S,
-    stage: &Stage,
+    stage: &'s Stage,
     moves: &[Move<'t>],
-) -> io::Result<Option<Failed<'t>>>
-where
-    H: Wait + Clock + Threads + Sync + RandomSource + AllocGlobal,
-    S: Form + Pages<T> + Asks<One, Many> + Sync + Drop,
-    S::Result: Replies,
-    T: Drop + Send,
-    One: AnswerReader,
-    Many: AnswerReader,
-    One::Output: Replies,
-    Many::Output: Replies,
-    One::Error: Replies,
-    Many::Error: Replies,
-{
-    let mut player = Player::new(rt, clock, stage.start, form)?;
-    for (at, row) in moves.iter().enumerate() {
-        let answered = match row.call.subject {
-            Subject::Thread(_) | Subject::Crowd => stage.turn_of(rt, form, at, &row.call),
-            _ if matches!(row.call.verb, "in_turn" | "in_turn_awake") => Some(stage.in_turn(
-                rt, form, at, &row.call,
-            )),
-            _ => Some(player.answer(&row.call)),
-        };
-        if let Some(answered) = answered {
-            let failed = Failed::unless(row, answered);
-            if failed.is_some() {
-                return Ok(failed);
-            }
-        }
-        if stage.has_failed() {
-            return Ok(None);
-        }
+    thread: usize,
+) -> Outcome<'t> {
+    let outcome = match Tasks::new(rt) {
+        Ok(tasks) => Ok(moved(
+            &mut Player {
+                rt,
+                clock,
+                form,
+                stage,
+                thread,
+                tasks,
+                pagers: Pagers::new(),
+                futures: Futures::new(),
+            },
+            moves,
+        )),
+        Err(error) => Err(error),
+    };
+    if !matches!(outcome, Ok(None)) || stage.has_failed() {
+        stage.has_failed.store(true, Ordering::SeqCst);
+        let_all_go(form);
     }
-    Ok(None)
+    if thread == stage.others() {
+        stage.begun.store(usize::MAX, Ordering::SeqCst);
+    }
+    outcome
 }

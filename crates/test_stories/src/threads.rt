@@ -1,15 +1,16 @@
-//! The other threads of a story: each makes its own moves, in its turn, and one whose call sleeps lets the story go on.
+//! The turns of a story's threads: each makes its own moves in its turn, and one whose call sleeps lets the story go on.
 
-use crate::forms::{Form, Pages};
-use crate::parts::Pagers;
-use crate::player::{plain, span_of};
+use crate::chaos::Tally;
+use crate::forms::{Form, Reads};
+use crate::stamps::Log;
+use saa_core_waits::Pager;
 use std::alloc::{AllocError, Global};
 use std::sync::Wait;
 use std::sync::atomic::{AtomicBool, AtomicUsize, Ordering};
 use std::thread::{self, yield_now};
 use std::time::{Clock, Duration, Instant};
-use test_language::language::{Call, Failed, Move, Subject, Time};
-use test_language::reply::{Replies, Reply, ReplyWord, number, word};
+use test_language::language::{Call, Move, Subject};
+use test_language::reply::{Reply, ReplyWord, number, word};
 
 // How many threads have names, ahead of the crowd; and how long one of the crowd sleeps between two looks for its turn, in microseconds.
 const NAMED: usize = 2;
@@ -20,12 +21,17 @@ const GLANCE: u64 = 200;
 #[derive(Drop)]
 pub(crate) struct Stage {
     pub(crate) start: Instant,
-    // How many moves may have begun, and for each other thread how many moves of its part have ended, or are another's.
-    begun: AtomicUsize,
+    /// How many moves may have begun, and for each other thread how many moves of its part have ended, or are another's.
+    pub(crate) begun: AtomicUsize,
     ended: Vec<AtomicUsize>,
-    // How many of the crowd have told by a callback that they joined the queue.
-    joined: AtomicUsize,
-    has_failed: AtomicBool,
+    /// How many of the crowd have said by a callback that they joined the queue.
+    pub(crate) joined: AtomicUsize,
+    /// What the callbacks of the story's own thread have counted.
+    pub(crate) calls: AtomicUsize,
+    pub(crate) tally: Tally,
+    pub(crate) log: Log,
+    /// Then nothing more is waited for.
+    pub(crate) has_failed: AtomicBool,
 }
 
 impl Stage {
@@ -44,6 +50,9 @@ impl Stage {
             begun: AtomicUsize::new(0),
             ended,
             joined: AtomicUsize::new(0),
+            calls: AtomicUsize::new(0),
+            tally: Tally::new(),
+            log: Log::new(alloc, stamped_turns(moves))?,
             has_failed: AtomicBool::new(false),
         })
     }
@@ -88,19 +97,16 @@ impl Stage {
         self.has_failed.load(Ordering::SeqCst)
     }
 
-    /// Nothing more is waited for.
-    pub(crate) fn fail(&self) {
-        self.has_failed.store(true, Ordering::SeqCst);
-    }
-
-    /// All moves may be made.
-    pub(crate) fn end(&self) {
-        self.begun.store(usize::MAX, Ordering::SeqCst);
+    /// This thread is done with its moves up to this one.
+    pub(crate) fn ends(&self, thread: usize, at: usize) {
+        if let Some(ended) = self.ended.get(thread) {
+            ended.store(at.saturating_add(1), Ordering::SeqCst);
+        }
     }
 
     /// Gives threads their turn: the story goes on once that call has ended, or sleeps. A wait for its end is answered, and so is how many have ended, or
     /// have joined the queue.
-    pub(crate) fn turn_of<S: Form>(
+    pub(crate) fn turn_of<S: Form<T, Q>, T: Drop, Q: Reads>(
         &self,
         rt: &impl Wait,
         form: &S,
@@ -127,7 +133,13 @@ impl Stage {
     }
 
     // Whether these threads are done with their moves before this one, and the call looks, has joined the queue or sleeps, as its row says.
-    fn is_away<S: Form>(&self, form: &S, at: usize, call: &Call<'_>, makers: usize) -> bool {
+    fn is_away<S: Form<T, Q>, T: Drop, Q: Reads>(
+        &self,
+        form: &S,
+        at: usize,
+        call: &Call<'_>,
+        makers: usize,
+    ) -> bool {
         if at != 0 && self.ended_of(call, at.saturating_sub(1)) != makers {
             return false;
         }
@@ -139,12 +151,12 @@ impl Stage {
                 self.joined.load(Ordering::SeqCst) == makers
             }
             "joins" => form.call(&Call::with("try", 0)).is("false"),
-            _ => form.sleeps(self.busy(at)),
+            _ => has_joined(form, self.busy(at)),
         }
     }
 
     /// Makes a call so often, each of which answers one of the crowd: how often that was so, and no other was woken or notified.
-    pub(crate) fn in_turn<S: Form>(
+    pub(crate) fn in_turn<S: Form<T, Q>, T: Drop, Q: Reads>(
         &self,
         rt: &impl Wait,
         form: &S,
@@ -152,28 +164,32 @@ impl Stage {
         call: &Call<'_>,
     ) -> Reply {
         let crowd = call.number().unwrap_or(0);
-        let is_awake = call.verb == "in_turn_awake";
         let counted = |verb| form.call(&Call::of(verb)).number();
         let mut right = 0usize;
         for answered in 1..=crowd {
             form.call(&call.then());
-            for _ in rt.forever() {
-                if self.busy(at) <= crowd.saturating_sub(answered) || self.has_failed() {
-                    break;
-                }
-                yield_now();
-            }
             let asleep = crowd.saturating_sub(answered);
+            self.await_busy(rt, at, asleep);
             let is_right = self.busy(at) == asleep
                 && counted("notified") == Some(answered)
-                && (is_awake || counted("parked") == Some(asleep));
+                && (call.verb == "in_turn_awake" || counted("parked") == Some(asleep));
             right = right.saturating_add(usize::from(is_right));
         }
         number(right)
     }
 
-    // Waits for the turn of a move; whether it comes. A crowd leaves the processors to others meanwhile.
-    fn awaits_turn(&self, rt: &(impl Wait + Clock), thread: usize, at: usize) -> bool {
+    // Waits until no more threads than so many are in a call.
+    fn await_busy(&self, rt: &impl Wait, at: usize, most: usize) {
+        for _ in rt.forever() {
+            if self.busy(at) <= most || self.has_failed() {
+                return;
+            }
+            yield_now();
+        }
+    }
+
+    /// Waits for the turn of a move; whether it comes. A crowd leaves the processors to others meanwhile.
+    pub(crate) fn awaits_turn(&self, rt: &(impl Wait + Clock), thread: usize, at: usize) -> bool {
         for _ in rt.forever() {
             if self.has_failed() {
                 return false;
@@ -191,7 +207,43 @@ impl Stage {
     }
 }
 
-// How many threads make a move, and whether this one does.
+/// Whether there is a waiter: then a semaphore doesn't even grant 0 permits, and a lock that is taken, of which one place was left, has none. A gate and a
+/// barrier don't say.
+pub(crate) fn has_waiter<S: Form<T, Q>, T: Drop, Q: Reads>(form: &S) -> bool {
+    if form.call(&Call::of("is_open")).is("?") && form.call(&Call::of("is_free")).is("?") {
+        return true;
+    }
+    let answer = form.call(&Call::with("try", 0));
+    if !answer.is("?") {
+        return answer.is("false");
+    }
+    let mut pager = Pager::new();
+    form.enroll(&mut pager, &Call::of("reg")) != Ok(true)
+}
+
+// Whether so many calls sleep, or one waits at a form that doesn't say how many sleep.
+fn has_joined<S: Form<T, Q>, T: Drop, Q: Reads>(form: &S, calls: usize) -> bool {
+    match form.call(&Call::of("parked")).number() {
+        Some(parked) => parked >= calls,
+        None => has_waiter(form),
+    }
+}
+
+/// Gives all that waiters can want, where a story went wrong.
+pub(crate) fn let_all_go<S: Form<T, Q>, T: Drop, Q: Reads>(form: &S) {
+    for verb in ["release_lock", "poison_lock", "open"] {
+        form.call(&Call::of(verb));
+    }
+    for _permit in 0..u16::MAX {
+        if !form.call(&Call::of("release")).is("true") {
+            break;
+        }
+    }
+    let mut arrival = Pager::new();
+    let _registered = form.enroll(&mut arrival, &Call::of("reg"));
+}
+
+// How many threads make a move.
 fn makers_of(call: &Call<'_>) -> usize {
     match call.subject {
         Subject::Thread(_) => 1,
@@ -200,7 +252,8 @@ fn makers_of(call: &Call<'_>) -> usize {
     }
 }
 
-fn is_made_by(call: &Call<'_>, thread: usize) -> bool {
+/// Whether this thread makes a move.
+pub(crate) fn is_made_by(call: &Call<'_>, thread: usize) -> bool {
     match call.subject {
         Subject::Thread(maker) => thread == maker,
         Subject::Crowd => thread >= NAMED && thread.saturating_sub(NAMED) < call.crowd,
@@ -221,83 +274,12 @@ fn others_of(moves: &[Move<'_>]) -> usize {
     others
 }
 
-// What a callback does here: it counts that its caller joined the queue, and lets others run.
-fn joins(stage: &Stage) {
-    stage.joined.fetch_add(1, Ordering::SeqCst);
-    yield_now();
-}
-
-// Makes a call of another thread. The story may have a lock's last place for a moment each time that it looks whether this call has it.
-fn made<'s, H, S, T>(
-    rt: &H,
-    clock: &impl Clock,
-    (form, stage): (&'s S, &Stage),
-    pagers: &mut Pagers<'s, S, T>,
-    row: &Move<'_>,
-) -> Reply
-where
-    H: Wait,
-    S: Form + Pages<T> + Drop,
-    S::Result: Replies,
-    T: Drop,
-{
-    let long = match row.call.time {
-        Time::Lasts(long) => long,
-        _ => Duration::ZERO,
-    };
-    let span = span_of(clock, stage.start, &row.call, long);
-    for _ in rt.forever() {
-        let told = match row.call.verb {
-            "reg" => form.enroll(pagers.get(row.call.pager()), &row.call).reply(),
-            "poll_sync" => pagers.polled(&row.call),
-            "poll_for" | "poll_until" => pagers.answer_in_time(&row.call, span),
-            "acquire_with" | "lock_with" | "share_with" | "enter_with" | "wait_with" => {
-                form.call_with(&row.call, || joins(stage))
-            }
-            "take_permit" | "hold_permit" | "permit_for" | "permit_until" => {
-                form.with_permit(&row.call, span, pagers.get(0))
-            }
-            _ => plain(form, &row.call, span),
-        };
-        if !told.is("full") || row.wanted == Some("full") {
-            return told;
-        }
-        yield_now();
-    }
-    unreachable!()
-}
-
-/// Makes the moves of one other thread; the first that was answered otherwise.
-pub(crate) fn acted<'t, 's, H, S, T>(
-    rt: &H,
-    clock: &impl Clock,
-    form: &'s S,
-    stage: &Stage,
-    moves: &[Move<'t>],
-    thread: usize,
-) -> Option<Failed<'t>>
-where
-    H: Wait + Clock,
-    S: Form + Pages<T> + Drop,
-    S::Result: Replies,
-    T: Drop,
-{
-    let mut pagers = Pagers::new();
-    for (at, row) in moves.iter().enumerate() {
-        if is_made_by(&row.call, thread) && !matches!(row.call.verb, "ends" | "ended" | "joined") {
-            if !stage.awaits_turn(rt, thread, at) {
-                return None;
-            }
-            let told = made(rt, clock, (form, stage), &mut pagers, row);
-            let failed = Failed::unless(row, told);
-            if failed.is_some() {
-                stage.fail();
-                return failed;
-            }
-        }
-        if let Some(ended) = stage.ended.get(thread) {
-            ended.store(at.saturating_add(1), Ordering::SeqCst);
+// How many turns of theirs have stamps.
+fn stamped_turns(moves: &[Move<'_>]) -> usize {
+    for row in moves {
+        if row.call.verb == "stamped" {
+            return others_of(moves).saturating_mul(row.call.number().unwrap_or(0));
         }
     }
-    None
+    0
 }

@@ -1,8 +1,7 @@
-//! Guards that are waited for in time: had at once, late no earlier and no later than told, refused at once where there is no room, and had
-//! again once the holder goes; at locks that are poisoned too, as no program can make them.
+//! Guards that are waited for in time: had at once, late no earlier and no later than asked, refused at once where there is no room, and had again once the
+//! holder goes; at locks that are poisoned too, as no program can make them.
 //!
-//! That such a call is granted while it is parked is shown by `test_guards::threads`, and the same of the lock-free lock in
-//! `test_lock_free::guards`.
+//! That such a call is granted while it is parked is shown by `test_guards::threads`, and the same of the lock-free lock in `test_lock_free::guards`.
 
 use crate::clock::OnClock;
 use saa_core::lock::LockCore;
@@ -18,91 +17,74 @@ use std::sync::Wait;
 use std::time::{Clock, Duration, Instant};
 use test_asserts::same;
 
-// What a timed call was told: the number that its guard shows, nothing in time, or that the room is full.
-type Told = Result<Option<u64>, Full>;
+// What a timed call answers: the number that its guard shows, nothing in time, or that the room is full.
+type Answer = Result<Option<u64>, Full>;
 
 // How long a call waits, and how much later each reading of its clock is than the last, in nanoseconds.
 const WHILE: u64 = 1_000_000;
 
 const STEP: u64 = 100_000;
 
-// An instant so long behind another one.
-fn behind(start: Instant, duration: Duration) -> io::Result<Instant> {
-    match start.checked_add(duration) {
+// The instant so long behind another one.
+fn behind(start: Instant) -> io::Result<Instant> {
+    match start.checked_add(Duration::from_nanos(WHILE)) {
         Some(end) => Ok(end),
         None => Err(io::Error::from(io::ErrorKind::Other)),
     }
 }
 
-// The instant until which a call waits that begins now.
-fn end_of(clock: &impl Clock) -> io::Result<Instant> {
-    behind(Instant::now(clock)?, Duration::from_nanos(WHILE))
-}
-
-// What a call tells, whose guard goes at once; an error where it isn't told in its time: late from this instant on, but for less than
-// twice as long, and else before it.
-fn told<G: Deref<Target = u64> + Drop>(
+// What a call answers, whose guard goes at once; an error where it isn't answered in its time: late from this instant on, but for less than twice as long, and
+// else before it.
+fn answered<G: Deref<Target = u64> + Drop>(
     clock: &impl Clock,
     end: Instant,
     answer: Result<Option<G>, Full>,
-) -> io::Result<Told> {
+) -> io::Result<Answer> {
     let now = Instant::now(clock)?;
     let is_late = now >= end;
-    let told = match answer {
+    let answer = match answer {
         Ok(Some(guard)) => Ok(Some(*guard)),
         Ok(None) => Ok(None),
         Err(full) => Err(full),
     };
-    if is_late != (told == Ok(None)) || now >= behind(end, Duration::from_nanos(WHILE))? {
+    if is_late != (answer == Ok(None)) || now >= behind(end)? {
         return Err(io::Error::from(io::ErrorKind::Other));
     }
-    Ok(told)
+    Ok(answer)
+}
+
+// What a call answers that waits from now on until that instant.
+macro_rules! in_time {
+    ($clock:expr, $end:ident, $call:expr) => {{
+        let $end = behind(Instant::now($clock)?)?;
+        answered($clock, $end, $call)?
+    }};
 }
 
 // Both timed calls of a mutex.
 fn of_mutex<R: Wait + Clock + Drop>(
     clock: &impl Clock,
     mutex: &Mutex<R, u64>,
-) -> io::Result<[Told; 2]> {
+) -> io::Result<[Answer; 2]> {
     let duration = Duration::from_nanos(WHILE);
-    let end = end_of(clock)?;
-    let first = told(clock, end, mutex.lock_for(duration))?;
-    let end = end_of(clock)?;
-    Ok([first, told(clock, end, mutex.lock_until(end))?])
+    Ok([
+        in_time!(clock, end, mutex.lock_for(duration)),
+        in_time!(clock, end, mutex.lock_until(end)),
+    ])
 }
 
 // The four of a reader-writer lock.
 fn of_rw_lock<R: Wait + Clock + Drop>(
     clock: &impl Clock,
     lock: &RwLock<R, u64>,
-) -> io::Result<[Told; 4]> {
+) -> io::Result<[Answer; 4]> {
     let duration = Duration::from_nanos(WHILE);
-    let end = end_of(clock)?;
-    let read = told(clock, end, lock.read_for(duration))?;
-    let end = end_of(clock)?;
-    let read_until = told(clock, end, lock.read_until(end))?;
-    let end = end_of(clock)?;
-    let written = told(clock, end, lock.write_for(duration))?;
-    let end = end_of(clock)?;
-    let written_until = told(clock, end, lock.write_until(end))?;
-    Ok([read, read_until, written, written_until])
-}
-
-// The same while a reader has it, and while a writer has.
-fn beside_reader<R: Wait + Clock + Drop>(
-    clock: &impl Clock,
-    lock: &RwLock<R, u64>,
-) -> io::Result<[Told; 4]> {
-    let _held = lock.try_read();
-    of_rw_lock(clock, lock)
-}
-
-fn beside_writer<R: Wait + Clock + Drop>(
-    clock: &impl Clock,
-    lock: &RwLock<R, u64>,
-) -> io::Result<[Told; 4]> {
-    let _held = lock.try_write();
-    of_rw_lock(clock, lock)
+    Ok([
+        in_time!(clock, end, lock.read_for(duration)),
+        in_time!(clock, end, lock.read_until(end)),
+        in_time!(clock, end, lock.write_for(duration)),
+        in_time!(clock, end, lock.write_until(end)),
+    ])
 }
 
 // A lock with room for so many waiters, which may be poisoned.
@@ -120,12 +102,12 @@ fn lock_of<R: Wait + Drop>(
     form_of(clock, alloc, core, room, NONE, NONE)
 }
 
-// What the calls of a mutex tell while it is free, while it is locked, and once it is free again.
+// What the calls of a mutex answer while it is free, while it is locked, and once it is free again.
 fn mutex_in_time<H: Wait + Clock + Drop + AllocGlobal>(
     rt: &H,
     room: u16,
     is_poisoned: bool,
-) -> io::Result<[[Told; 2]; 3]> {
+) -> io::Result<[[Answer; 2]; 3]> {
     let clock = OnClock::new(rt, STEP);
     let mutex = mutex_on(lock_of(&clock, rt.alloc(), room, is_poisoned)?, 7);
     let free = of_mutex(&clock, &mutex)?;
@@ -140,33 +122,36 @@ fn rw_lock_in_time<H: Wait + Clock + Drop + AllocGlobal>(
     rt: &H,
     room: u16,
     is_poisoned: bool,
-) -> io::Result<[[Told; 4]; 4]> {
+) -> io::Result<[[Answer; 4]; 4]> {
     let clock = OnClock::new(rt, STEP);
     let lock = rwlock_on(lock_of(&clock, rt.alloc(), room, is_poisoned)?, 7);
+    let free = of_rw_lock(&clock, &lock)?;
+    let held = lock.try_read();
+    let beside_reader = of_rw_lock(&clock, &lock)?;
+    drop(held);
+    let held = lock.try_write();
+    let beside_writer = of_rw_lock(&clock, &lock)?;
+    drop(held);
     Ok([
-        of_rw_lock(&clock, &lock)?,
-        beside_reader(&clock, &lock)?,
-        beside_writer(&clock, &lock)?,
+        free,
+        beside_reader,
+        beside_writer,
         of_rw_lock(&clock, &lock)?,
     ])
 }
 
-// Had, late, and refused.
-const HAD: Told = Ok(Some(7));
+const HAD: Answer = Ok(Some(7));
 
-const LATE: Told = Ok(None);
+const LATE: Answer = Ok(None);
 
-const FULL: Told = Err(Full);
-
+// With room for a waiter a call is late beside a holder, and with none it is refused.
 #[test]
 fn guards_are_had_in_time_or_not_at_all(rt: HostRuntime) {
-    for is_poisoned in [false, true] {
-        let mutex = mutex_in_time(&rt, 1, is_poisoned);
-        same!(rt; mutex.ok(), Some([[HAD; 2], [LATE; 2], [HAD; 2]]));
-        let rw_lock = rw_lock_in_time(&rt, 1, is_poisoned);
-        same!(rt; rw_lock.ok(), Some([[HAD; 4], [HAD, HAD, LATE, LATE], [LATE; 4], [HAD; 4]]));
+    for (room, is_poisoned, other) in [(1, false, LATE), (1, true, LATE), (0, false, Err(Full))] {
+        let mutex = mutex_in_time(&rt, room, is_poisoned);
+        same!(rt; mutex.ok(), Some([[HAD; 2], [other; 2], [HAD; 2]]));
+        let rw_lock = rw_lock_in_time(&rt, room, is_poisoned);
+        let beside_reader = [HAD, HAD, other, other];
+        same!(rt; rw_lock.ok(), Some([[HAD; 4], beside_reader, [other; 4], [HAD; 4]]));
     }
-    same!(rt; mutex_in_time(&rt, 0, false).ok(), Some([[HAD; 2], [FULL; 2], [HAD; 2]]));
-    let rw_lock = rw_lock_in_time(&rt, 0, false);
-    same!(rt; rw_lock.ok(), Some([[HAD; 4], [HAD, HAD, FULL, FULL], [FULL; 4], [HAD; 4]]));
 }

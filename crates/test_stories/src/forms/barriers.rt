@@ -1,8 +1,9 @@
 //! The barrier of stories.
 
-use crate::forms::{Asks, Form, Pages, Span};
+use crate::forms::{Caller, Form, Span};
+use crate::parts::polled_twice;
 use saa_core_spec::request::Full;
-use saa_core_waits::{Acquiring, AcquiringWith, Pager};
+use saa_core_waits::{Acquiring, Pager};
 use saa_sync::barrier::Barrier;
 use saa_sync::future::Arrival;
 use saa_sync::pager::Ticket;
@@ -13,7 +14,7 @@ use std::time::Clock;
 use test_language::language::Call;
 use test_language::reply::{Replies, Reply, number, unknown};
 
-impl<R: Wait + Clock + Drop> Form for Barrier<R> {
+impl<R: Wait + Clock + Drop> Form<Ticket, Arrival> for Barrier<R> {
     fn call(&self, call: &Call<'_>) -> Reply {
         match call.verb {
             "count" => number(self.count(SeqCst)),
@@ -36,22 +37,18 @@ impl<R: Wait + Clock + Drop> Form for Barrier<R> {
         }
     }
 
-    fn call_with<F: FnOnce() + Drop>(&self, _call: &Call<'_>, begin_wait: F) -> Reply {
-        self.wait_sync_with(begin_wait).reply()
+    fn call_with<F: FnOnce() + Drop>(
+        &self,
+        caller: Caller<'_>,
+        _call: &Call<'_>,
+        begin_wait: F,
+    ) -> Reply {
+        match caller {
+            Caller::Thread => self.wait_sync_with(begin_wait).reply(),
+            _ => polled_twice(caller, self.wait_async_with(begin_wait)),
+        }
     }
 
-    fn sleeps(&self, calls: usize) -> bool {
-        self.counts().parked() >= calls
-    }
-
-    // There is room for the arrival that is missing.
-    fn let_all_go(&self) {
-        let mut pager = Pager::new();
-        let _told = self.register_pager(&mut pager, true);
-    }
-}
-
-impl<R: Wait + Clock + Drop> Pages<Ticket> for Barrier<R> {
     fn enroll<'s>(
         &'s self,
         pager: &mut Pager<'s, Self, Ticket>,
@@ -64,41 +61,7 @@ impl<R: Wait + Clock + Drop> Pages<Ticket> for Barrier<R> {
         slot_of(pager).map(|slot| self.counts().is_notified(slot))
     }
 
-    fn with_permit<'s>(
-        &'s self,
-        _call: &Call<'_>,
-        _span: Span,
-        _pager: &mut Pager<'s, Self, Ticket>,
-    ) -> Reply {
-        unknown()
-    }
-}
-
-impl<R: Wait + Drop> Asks<Arrival, Arrival> for Barrier<R> {
-    fn ask_one(&self) -> Acquiring<'_, Self, Arrival> {
+    fn ask(&self, _call: &Call<'_>) -> Acquiring<'_, Self, Arrival> {
         self.wait_async()
-    }
-
-    fn ask_many(&self, _call: &Call<'_>) -> Acquiring<'_, Self, Arrival> {
-        self.wait_async()
-    }
-
-    fn ask_one_with<F: FnOnce() + Drop>(
-        &self,
-        begin_wait: F,
-    ) -> AcquiringWith<'_, Self, Arrival, F> {
-        self.wait_async_with(begin_wait)
-    }
-
-    fn ask_many_with<F: FnOnce() + Drop>(
-        &self,
-        _call: &Call<'_>,
-        begin_wait: F,
-    ) -> AcquiringWith<'_, Self, Arrival, F> {
-        self.wait_async_with(begin_wait)
-    }
-
-    fn is_many(_call: &Call<'_>) -> bool {
-        false
     }
 }

@@ -1,9 +1,10 @@
 //! The gate of stories.
 
-use crate::forms::{Asks, Form, Pages, Span};
+use crate::forms::{Caller, Form, Span};
+use crate::parts::polled_twice;
 use saa_core::Primitive;
 use saa_core_spec::request::Full;
-use saa_core_waits::{Acquiring, AcquiringWith, Pager};
+use saa_core_waits::{Acquiring, Pager};
 use saa_sync::future::Passing;
 use saa_sync::gate::{Gate, TimedEntry};
 use saa_sync::pager::Ticket;
@@ -14,7 +15,7 @@ use std::time::Clock;
 use test_language::language::Call;
 use test_language::reply::{Replies, Reply, ReplyWord, number, unknown, word};
 
-impl<R: Wait + Clock + Drop> Form for Gate<R> {
+impl<R: Wait + Clock + Drop> Form<Ticket, Passing> for Gate<R> {
     fn call(&self, call: &Call<'_>) -> Reply {
         match (call.verb, call.number()) {
             ("state", _) => self.state(SeqCst).reply(),
@@ -44,22 +45,38 @@ impl<R: Wait + Clock + Drop> Form for Gate<R> {
         }
     }
 
-    fn call_with<F: FnOnce() + Drop>(&self, _call: &Call<'_>, begin_wait: F) -> Reply {
-        self.enter_sync_with(begin_wait).reply()
+    fn call_with<F: FnOnce() + Drop>(
+        &self,
+        caller: Caller<'_>,
+        _call: &Call<'_>,
+        begin_wait: F,
+    ) -> Reply {
+        match caller {
+            Caller::Thread => self.enter_sync_with(begin_wait).reply(),
+            _ => polled_twice(caller, self.enter_async_with(begin_wait)),
+        }
     }
 
-    fn sleeps(&self, calls: usize) -> bool {
-        self.counts().parked() >= calls
+    fn enroll<'s>(
+        &'s self,
+        pager: &mut Pager<'s, Self, Ticket>,
+        call: &Call<'_>,
+    ) -> Result<bool, Full> {
+        self.register_pager(pager, call.is_sync)
     }
 
-    fn let_all_go(&self) {
-        self.open();
+    fn is_notified(&self, pager: &Pager<'_, Self, Ticket>) -> Option<bool> {
+        slot_of(pager).map(|slot| self.counts().is_notified(slot))
+    }
+
+    fn ask(&self, _call: &Call<'_>) -> Acquiring<'_, Self, Passing> {
+        self.enter_async()
     }
 }
 
-// What a timed call tells.
-fn entered(told: Result<TimedEntry, Full>) -> Reply {
-    match told {
+// What a timed call answers.
+fn entered(answer: Result<TimedEntry, Full>) -> Reply {
+    match answer {
         Ok(TimedEntry::Passed(state)) => state.granted(),
         Ok(TimedEntry::Refused(error)) => error.reply(),
         Ok(TimedEntry::Late) => word(ReplyWord::TimedOut),
@@ -78,56 +95,4 @@ fn is_untold<R: Wait + Drop>(gate: &Gate<R>) -> bool {
     call_untold(gate, |core| {
         core.permit() == Ok(1) && core.next_answered().is_some()
     })
-}
-
-impl<R: Wait + Clock + Drop> Pages<Ticket> for Gate<R> {
-    fn enroll<'s>(
-        &'s self,
-        pager: &mut Pager<'s, Self, Ticket>,
-        call: &Call<'_>,
-    ) -> Result<bool, Full> {
-        self.register_pager(pager, call.is_sync)
-    }
-
-    fn is_notified(&self, pager: &Pager<'_, Self, Ticket>) -> Option<bool> {
-        slot_of(pager).map(|slot| self.counts().is_notified(slot))
-    }
-
-    fn with_permit<'s>(
-        &'s self,
-        _call: &Call<'_>,
-        _span: Span,
-        _pager: &mut Pager<'s, Self, Ticket>,
-    ) -> Reply {
-        unknown()
-    }
-}
-
-impl<R: Wait + Drop> Asks<Passing, Passing> for Gate<R> {
-    fn ask_one(&self) -> Acquiring<'_, Self, Passing> {
-        self.enter_async()
-    }
-
-    fn ask_many(&self, _call: &Call<'_>) -> Acquiring<'_, Self, Passing> {
-        self.enter_async()
-    }
-
-    fn ask_one_with<F: FnOnce() + Drop>(
-        &self,
-        begin_wait: F,
-    ) -> AcquiringWith<'_, Self, Passing, F> {
-        self.enter_async_with(begin_wait)
-    }
-
-    fn ask_many_with<F: FnOnce() + Drop>(
-        &self,
-        _call: &Call<'_>,
-        begin_wait: F,
-    ) -> AcquiringWith<'_, Self, Passing, F> {
-        self.enter_async_with(begin_wait)
-    }
-
-    fn is_many(_call: &Call<'_>) -> bool {
-        false
-    }
 }

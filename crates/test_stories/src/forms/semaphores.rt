@@ -1,14 +1,14 @@
 //! The semaphores of stories: the lock-free one and the threaded one, by the calls that both have under the same names.
 
-use crate::forms::{Asks, Form, Pages, Span};
+use crate::forms::{Caller, Form, Span};
+use crate::parts::polled_twice;
 use saa_core_spec::request::Full;
-use saa_core_waits::blocking::{acquire, acquire_until};
-use saa_core_waits::{Acquiring, AcquiringWith, Deadline, Pager};
-use saa_sync::future::semaphore as threaded_future;
+use saa_core_waits::{Acquiring, Pager};
+use saa_sync::future::ManyPermits as ThreadedPermits;
 use saa_sync::pager::Ticket;
 use saa_sync::semaphore::SemaphoreOf as Threaded;
 use saa_sync::testing::{Counted, call_untold, slot_of};
-use saa_word_lock_free::future as lock_free_future;
+use saa_word_lock_free::future::ManyPermits;
 use saa_word_lock_free::registration::Registration;
 use saa_word_lock_free::semaphore::SemaphoreOf as LockFree;
 use saa_word_threads::semaphore::SemaphoreOf as Word;
@@ -23,6 +23,7 @@ use test_language::reply::{Replies, Reply, ReplyWord, number, unknown, word};
 macro_rules! called {
     ($form:expr, $call:expr) => {
         match ($call.verb, $call.number()) {
+            ("bound", _) => number(Self::MAX_PERMITS),
             ("is_open", _) => $form.is_open(SeqCst).reply(),
             ("is_closed", _) => $form.is_closed(SeqCst).reply(),
             ("available", _) => number($form.available_permits(SeqCst)),
@@ -38,7 +39,7 @@ macro_rules! called {
 }
 
 macro_rules! called_in_time {
-    ($form:expr, $call:expr, $span:expr, $registration:expr) => {
+    ($form:expr, $call:expr, $span:expr) => {
         match ($call.verb, $call.number(), $span) {
             ("acquire_for", None, Span::For(long)) => $form.acquire_sync_for(long).reply(),
             ("acquire_until", None, Span::Until(end)) => $form.acquire_sync_until(end).reply(),
@@ -48,50 +49,53 @@ macro_rules! called_in_time {
             ("acquire_until", Some(count), Span::Until(end)) => {
                 $form.acquire_many_sync_until(count, end).reply()
             }
-            ("acquire_any_until", Some(count), Span::Until(end)) => {
-                acquire_until($form, $registration, count, Deadline::At(end)).reply()
-            }
             _ => unknown(),
         }
     };
 }
 
 macro_rules! called_with {
-    ($form:expr, $call:expr, $begin_wait:expr) => {
-        match $call.number() {
-            Some(count) => $form.acquire_many_sync_with(count, $begin_wait).reply(),
-            None => $form.acquire_sync_with($begin_wait).reply(),
+    ($form:expr, $caller:expr, $call:expr, $begin_wait:expr) => {
+        match ($caller, $call.number()) {
+            (Caller::Thread, Some(count)) => {
+                $form.acquire_many_sync_with(count, $begin_wait).reply()
+            }
+            (Caller::Thread, None) => $form.acquire_sync_with($begin_wait).reply(),
+            (caller, Some(count)) => {
+                polled_twice(caller, $form.acquire_many_async_with(count, $begin_wait))
+            }
+            (caller, None) => polled_twice(caller, $form.acquire_async_with($begin_wait)),
         }
     };
 }
 
 // Waits until another thread's call sleeps.
-fn await_sleeper<S: Form>(form: &S) {
+fn await_sleeper<R: Wait + Drop, const MAX: usize>(form: &Threaded<R, MAX>) {
     for _look in 0..u64::MAX {
-        if form.sleeps(1) {
+        if form.counts().parked() != 0 {
             return;
         }
         yield_now();
     }
 }
 
-// A permit that goes, at once or once another call sleeps, or is forgotten; the pager is registered beside it.
+// A permit that goes, at once or, where the form says how many sleep, once another call sleeps, or is forgotten; the pager is registered beside it.
 macro_rules! permitted {
-    ($form:expr, $call:expr, $span:expr, $pager:expr) => {{
-        let told = match ($call.verb, $span) {
+    ($form:expr, $call:expr, $span:expr, $pager:expr, $await_sleeper:expr) => {{
+        let taken = match ($call.verb, $span) {
             ("take_permit" | "hold_permit", _) => $form.acquire_permit().map(Some),
             ("permit_for", Span::For(long)) => $form.acquire_permit_for(long),
             ("permit_until", Span::Until(end)) => $form.acquire_permit_until(end),
             _ => Ok($form.try_acquire_permit()),
         };
-        match told {
+        match taken {
             Ok(Some(permit)) => {
                 let available = $form.available_permits(SeqCst);
                 match $call.verb {
                     "pass_permit" => {
-                        let _told = $form.register_pager($pager, 1, true);
+                        let _registered = $form.register_pager($pager, 1, true);
                     }
-                    "hold_permit" => await_sleeper($form),
+                    "hold_permit" => $await_sleeper,
                     _ => {}
                 }
                 if $call.then().verb == "forget" {
@@ -105,25 +109,14 @@ macro_rules! permitted {
     }};
 }
 
-// Gives back all that are out.
-macro_rules! released {
-    ($form:expr, $max:expr) => {
-        for _permit in 0..$max {
-            if !$form.release() {
-                return;
-            }
-        }
-    };
-}
-
-impl<R: Wait + Clock + Drop, const MAX: usize> Form for LockFree<R, MAX> {
+impl<R: Wait + Clock + Drop, const MAX: usize> Form<Registration<Word<MAX>>, ManyPermits>
+    for LockFree<R, MAX> {
     fn call(&self, call: &Call<'_>) -> Reply {
         let count = call.number().unwrap_or(1);
         match call.verb {
             "available_witnessed" => number(usize::from(self.available_permits_witnessed().0)),
             "try_witnessed" => self.try_acquire_many_witnessed(count).0.reply(),
             "release_witnessed" => self.release_many_witnessed(count).0.reply(),
-            "acquire_any" => acquire(self, &mut Registration::new(), count).reply(),
             "acquire_witnessed" if count > MAX => word(ReplyWord::False),
             "acquire_witnessed" => match self.acquire_many_witnessed(count) {
                 Ok((value, _receipt)) => value.reply(),
@@ -134,24 +127,18 @@ impl<R: Wait + Clock + Drop, const MAX: usize> Form for LockFree<R, MAX> {
     }
 
     fn call_in_time(&self, call: &Call<'_>, span: Span) -> Reply {
-        called_in_time!(self, call, span, &mut Registration::new())
+        called_in_time!(self, call, span)
     }
 
-    fn call_with<F: FnOnce() + Drop>(&self, call: &Call<'_>, begin_wait: F) -> Reply {
-        called_with!(self, call, begin_wait)
+    fn call_with<F: FnOnce() + Drop>(
+        &self,
+        caller: Caller<'_>,
+        call: &Call<'_>,
+        begin_wait: F,
+    ) -> Reply {
+        called_with!(self, caller, call, begin_wait)
     }
 
-    // While there is a waiter not even 0 permits are granted.
-    fn sleeps(&self, _calls: usize) -> bool {
-        !self.try_acquire_many(0)
-    }
-
-    fn let_all_go(&self) {
-        released!(self, MAX)
-    }
-}
-
-impl<R: Wait + Clock + Drop, const MAX: usize> Pages<Registration<Word<MAX>>> for LockFree<R, MAX> {
     fn enroll<'s>(
         &'s self,
         pager: &mut Pager<'s, Self, Registration<Word<MAX>>>,
@@ -160,66 +147,24 @@ impl<R: Wait + Clock + Drop, const MAX: usize> Pages<Registration<Word<MAX>>> fo
         self.register_pager(pager, call.asked(), call.is_sync)
     }
 
-    // Its places don't say.
-    fn is_notified(&self, _pager: &Pager<'_, Self, Registration<Word<MAX>>>) -> Option<bool> {
-        None
-    }
-
     fn with_permit<'s>(
         &'s self,
         call: &Call<'_>,
         span: Span,
         pager: &mut Pager<'s, Self, Registration<Word<MAX>>>,
     ) -> Reply {
-        permitted!(self, call, span, pager)
-    }
-}
-
-impl<R: Wait + Drop, const MAX: usize> Asks<
-    lock_free_future::OnePermit,
-    lock_free_future::ManyPermits,
-> for LockFree<R, MAX> {
-    fn ask_one(&self) -> Acquiring<'_, Self, lock_free_future::OnePermit> {
-        self.acquire_async()
+        permitted!(self, call, span, pager, ())
     }
 
-    fn ask_many(&self, call: &Call<'_>) -> Acquiring<'_, Self, lock_free_future::ManyPermits> {
+    fn ask(&self, call: &Call<'_>) -> Acquiring<'_, Self, ManyPermits> {
         self.acquire_many_async(call.number().unwrap_or(1))
     }
-
-    fn ask_one_with<F: FnOnce() + Drop>(
-        &self,
-        begin_wait: F,
-    ) -> AcquiringWith<'_, Self, lock_free_future::OnePermit, F> {
-        self.acquire_async_with(begin_wait)
-    }
-
-    fn ask_many_with<F: FnOnce() + Drop>(
-        &self,
-        call: &Call<'_>,
-        begin_wait: F,
-    ) -> AcquiringWith<'_, Self, lock_free_future::ManyPermits, F> {
-        self.acquire_many_async_with(call.number().unwrap_or(1), begin_wait)
-    }
-
-    fn is_many(call: &Call<'_>) -> bool {
-        call.number().is_some()
-    }
 }
 
-// It has no calls with receipts, and answers these by its plain ones.
-impl<R: Wait + Clock + Drop, const MAX: usize> Form for Threaded<R, MAX> {
+impl<R: Wait + Clock + Drop, const MAX: usize> Form<Ticket, ThreadedPermits> for Threaded<R, MAX> {
     fn call(&self, call: &Call<'_>) -> Reply {
         let count = call.number().unwrap_or(1);
         match call.verb {
-            "available_witnessed" => number(self.available_permits(SeqCst)),
-            "try_witnessed" => self.try_acquire_many(count).reply(),
-            "release_witnessed" => self.release_many(count).reply(),
-            "acquire_any" => acquire(self, &mut Ticket::new(), count).reply(),
-            "acquire_witnessed" => match self.acquire_many_sync(count) {
-                Ok(true) => number(0),
-                told => told.reply(),
-            },
             "shut" => self.shut().reply(),
             "is_shut" => self.is_shut().reply(),
             "notified" => number(self.counts().notified()),
@@ -232,23 +177,18 @@ impl<R: Wait + Clock + Drop, const MAX: usize> Form for Threaded<R, MAX> {
     }
 
     fn call_in_time(&self, call: &Call<'_>, span: Span) -> Reply {
-        called_in_time!(self, call, span, &mut Ticket::new())
+        called_in_time!(self, call, span)
     }
 
-    fn call_with<F: FnOnce() + Drop>(&self, call: &Call<'_>, begin_wait: F) -> Reply {
-        called_with!(self, call, begin_wait)
+    fn call_with<F: FnOnce() + Drop>(
+        &self,
+        caller: Caller<'_>,
+        call: &Call<'_>,
+        begin_wait: F,
+    ) -> Reply {
+        called_with!(self, caller, call, begin_wait)
     }
 
-    fn sleeps(&self, calls: usize) -> bool {
-        self.counts().parked() >= calls
-    }
-
-    fn let_all_go(&self) {
-        released!(self, MAX)
-    }
-}
-
-impl<R: Wait + Clock + Drop, const MAX: usize> Pages<Ticket> for Threaded<R, MAX> {
     fn enroll<'s>(
         &'s self,
         pager: &mut Pager<'s, Self, Ticket>,
@@ -267,38 +207,10 @@ impl<R: Wait + Clock + Drop, const MAX: usize> Pages<Ticket> for Threaded<R, MAX
         span: Span,
         pager: &mut Pager<'s, Self, Ticket>,
     ) -> Reply {
-        permitted!(self, call, span, pager)
-    }
-}
-
-impl<R: Wait + Drop, const MAX: usize> Asks<
-    threaded_future::OnePermit,
-    threaded_future::ManyPermits,
-> for Threaded<R, MAX> {
-    fn ask_one(&self) -> Acquiring<'_, Self, threaded_future::OnePermit> {
-        self.acquire_async()
+        permitted!(self, call, span, pager, await_sleeper(self))
     }
 
-    fn ask_many(&self, call: &Call<'_>) -> Acquiring<'_, Self, threaded_future::ManyPermits> {
+    fn ask(&self, call: &Call<'_>) -> Acquiring<'_, Self, ThreadedPermits> {
         self.acquire_many_async(call.number().unwrap_or(1))
-    }
-
-    fn ask_one_with<F: FnOnce() + Drop>(
-        &self,
-        begin_wait: F,
-    ) -> AcquiringWith<'_, Self, threaded_future::OnePermit, F> {
-        self.acquire_async_with(begin_wait)
-    }
-
-    fn ask_many_with<F: FnOnce() + Drop>(
-        &self,
-        call: &Call<'_>,
-        begin_wait: F,
-    ) -> AcquiringWith<'_, Self, threaded_future::ManyPermits, F> {
-        self.acquire_many_async_with(call.number().unwrap_or(1), begin_wait)
-    }
-
-    fn is_many(call: &Call<'_>) -> bool {
-        call.number().is_some()
     }
 }
