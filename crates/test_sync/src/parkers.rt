@@ -52,6 +52,6 @@ fn notified<R: Wait + Threads + Sync>(rt: &R, is_late: bool) -> [bool; 3] {
 // An unpark for the slot's last waiter may come late. One that comes before the next waiter parks doesn't keep that awake. One that comes as
 // it parks, and finds no waiter there yet, leaves it parked at a parker that is notified; the next unpark wakes it.
 #[test]
-fn a_sleeper_at_a_rung_parker_is_woken(rt: HostRuntime) {
+fn a_waiter_at_a_notified_parker_is_woken(rt: HostRuntime) {
     same!(rt; [notified(&rt, false), notified(&rt, true)], [[true; 3], [true; 3]]);
 }

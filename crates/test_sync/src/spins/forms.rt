@@ -2,6 +2,7 @@
 
 use crate::spins::stage::{Keep, spin};
 use futures::executor::block_on;
+use futures::test::MockTask;
 use saa_core::Primitive;
 use saa_core::barrier::BarrierCore;
 use saa_core::gate::GateCore;
@@ -29,36 +30,19 @@ const ROOM: u16 = 4;
 // How many lengths of rest there are beside calls that are made often.
 const RESTS: usize = 256;
 
-const FEW: SpinPolicy = SpinPolicy {
-    looks: 9,
-    yields: 4,
-};
+fn policy(looks: u32, yields: u32) -> SpinPolicy {
+    SpinPolicy { looks, yields }
+}
 
-const SOME: SpinPolicy = SpinPolicy {
-    looks: 20,
-    yields: 1,
-};
-
-// Looks for the whole test, and would yield after that; and yields for the whole test.
-const LOOKS_ON: SpinPolicy = SpinPolicy {
-    looks: u32::MAX,
-    yields: 4,
-};
-
-const YIELDS_ON: SpinPolicy = SpinPolicy {
-    looks: 0,
-    yields: u32::MAX,
-};
-
-// The spin policies of calls that aren't registered and of waiters.
+// The spin policies of calls that aren't registered and of waiters. No test lasts as long as `u32::MAX` looks or yields.
 fn policies(name: &str) -> (SpinPolicy, SpinPolicy) {
     match name {
-        "few_none" => (FEW, NONE),
-        "none_few" => (NONE, FEW),
-        "some_none" => (SOME, NONE),
-        "looks_none" => (LOOKS_ON, NONE),
-        "none_looks" => (NONE, LOOKS_ON),
-        "yields_none" => (YIELDS_ON, NONE),
+        "few_none" => (policy(9, 4), NONE),
+        "none_few" => (NONE, policy(9, 4)),
+        "some_none" => (policy(20, 1), NONE),
+        "looks_none" => (policy(u32::MAX, 4), NONE),
+        "none_looks" => (NONE, policy(u32::MAX, 4)),
+        "yields_none" => (policy(0, u32::MAX), NONE),
         _ => (NONE, NONE),
     }
 }
@@ -159,25 +143,17 @@ where
     H: Wait + Clock + RandomSource + AllocGlobal,
     R: Wait + Clock + Drop,
 {
-    match call.verb {
-        "mutex" => kept(rt, forms.mutex.lock().ok(), keep),
-        "mutex_for" => kept(rt, in_time(forms.mutex.lock_for(long_of(call))), keep),
-        "try_mutex" => kept(rt, forms.mutex.try_lock(), keep),
-        "enter" => forms.gate.enter_sync().is_ok(),
-        "permit" => forms.gate.permit() == Ok(1),
-        "arrive" => forms.barrier.wait_sync() == Ok(false),
-        "arrive_last" => forms.barrier.wait_sync() == Ok(true),
-        "read" | "read_for" | "write" | "try_read" | "try_write" | "lower_write" => {
-            call_rwlock(rt, &forms.rwlock, call, keep)
-        }
-        "acquire"
-        | "acquire_with"
-        | "acquire_for"
-        | "acquire_permit"
-        | "page_async"
-        | "try"
-        | "try_permit" => call_semaphore(rt, &forms.semaphore, call, keep),
-        _ => call_lock(rt, &forms.lock, call, keep),
+    match (forms.name, call.verb) {
+        ("semaphore", _) => call_semaphore(rt, &forms.semaphore, call, keep),
+        ("lock", _) => call_lock(rt, &forms.lock, call, keep),
+        ("mutex", "lock") => kept(rt, forms.mutex.lock().ok(), keep),
+        ("mutex", "lock_for") => kept(rt, in_time(forms.mutex.lock_for(long_of(call))), keep),
+        ("mutex", _) => kept(rt, forms.mutex.try_lock(), keep),
+        ("rwlock", _) => call_rwlock(rt, &forms.rwlock, call, keep),
+        ("gate", "enter") => forms.gate.enter_sync().is_ok(),
+        ("gate", _) => forms.gate.permit() == Ok(1),
+        (_, "wait") => forms.barrier.wait_sync() == Ok(false),
+        _ => forms.barrier.wait_sync() == Ok(true),
     }
 }
 
@@ -251,15 +227,19 @@ fn page_async<H: Wait + RandomSource + AllocGlobal, R: Wait + Drop>(
     has_joined && matches!(block_on(rt, pager.poll_async()), Ok(Ok(())))
 }
 
-fn call_lock<H: Wait + Clock, R: Wait + Clock + Drop>(
-    rt: &H,
-    lock: &Lock<R>,
-    call: &Call<'_>,
-    keep: Keep<'_>,
-) -> bool {
+fn call_lock<H, R>(rt: &H, lock: &Lock<R>, call: &Call<'_>, keep: Keep<'_>) -> bool
+where
+    H: Wait + Clock + RandomSource + AllocGlobal,
+    R: Wait + Clock + Drop,
+{
     let is_granted = match call.verb {
         "take" => return lock.try_lock() == Ok(()),
         "release_lock" => return lock.release_lock(),
+        "release_share" => return lock.release_share(),
+        "downgrade" => return lock.downgrade(),
+        "poison_lock" => return lock.poison_lock(),
+        "leave" => return leave(rt, lock, keep),
+        "drop_future" => return drop_future(rt, lock, keep),
         "share" => lock.share_sync() == Ok(true),
         "share_with" => lock.share_sync_with(|| ()) == Ok(true),
         "try_share" => lock.try_share() == Ok(()),
@@ -284,13 +264,10 @@ fn call_lock<H: Wait + Clock, R: Wait + Clock + Drop>(
 
 // Waits for the lock until so long from now; whether it was granted.
 fn lock_until<R: Wait + Clock + Drop>(clock: &impl Clock, lock: &Lock<R>, long: Duration) -> bool {
-    let Ok(now) = Instant::now(clock) else {
-        return false;
-    };
-    match now.checked_add(long) {
-        Some(end) => lock.lock_sync_until(end) == Ok(Some(true)),
-        None => false,
-    }
+    let end = Instant::now(clock)
+        .ok()
+        .and_then(|now| now.checked_add(long));
+    end.is_some_and(|end| lock.lock_sync_until(end) == Ok(Some(true)))
 }
 
 // Waits for the lock by a pager; whether it was granted.
@@ -304,6 +281,31 @@ fn page<R: Wait + Clock + Drop>(lock: &Lock<R>, call: &Call<'_>) -> bool {
         "page_for" => pager.poll_sync_for(long_of(call)) == Some(Ok(true)),
         _ => false,
     }
+}
+
+// Waits for the lock by a pager, which is cancelled; whether it joined the queue.
+fn leave<R: Wait + Drop>(rt: &impl Wait, lock: &Lock<R>, keep: Keep<'_>) -> bool {
+    let mut pager = Pager::new();
+    let has_joined = lock.register_pager(&mut pager, Mode::Exclusive, true) == Ok(true);
+    keep.pass(rt);
+    pager.cancel();
+    has_joined
+}
+
+// Waits for the lock by a future, which is dropped; whether it joined the queue.
+fn drop_future<H: Wait + RandomSource + AllocGlobal, R: Wait + Drop>(
+    rt: &H,
+    lock: &Lock<R>,
+    keep: Keep<'_>,
+) -> bool {
+    let Ok(task) = MockTask::new(rt) else {
+        return false;
+    };
+    let mut future = lock.lock_async();
+    let has_joined = task.poll(&mut future).is_pending();
+    keep.pass(rt);
+    drop(future);
+    has_joined
 }
 
 /// Makes a call so often, with rests of many lengths while it has what it took, and after that; how often it was granted.

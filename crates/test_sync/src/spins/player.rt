@@ -3,15 +3,16 @@
 //! | Words | Mean |
 //! |---|---|
 //! | `lock few_none` | the story is of the lock; calls spin by the first policy before they register, and waiters by the second |
-//! | `lock`, `acquire 63`, `try_lock`, .. | a call that gives back what it took; `lower` takes the lock alone and shares it; `take` and `release_lock` are each a half of one |
+//! | `lock`, `acquire 63`, `try_lock`, .. | a call that gives back what it took; `lower` takes the lock alone and shares it; `take`, `downgrade`, `release_share`, .. are parts of one |
+//! | `leave`, `drop_future` | a pager waits for the lock, and is cancelled; a future does, and is dropped |
 //! | `t1 lock`, `crowd lock` | a thread begins the call, and the story goes on; the crowd is a third thread |
-//! | `t2 lock holds`, `t2 goes` | the call keeps what it took until the second row |
+//! | `t2 lock holds`, `t2 goes` | the call keeps what it took until the second row; of `t2 page keeps` the story doesn't wait until it has that |
 //! | `t1 lock until_blocked` | the mutex is held as the call begins, until one blocks there; `until_looked`: until it has looked 13 times; `until_looker`: until it looks, and for a while |
 //! | `t1 ends` | the story waits for the end of the thread's calls |
 //! | `turns`, `parked`, `looked`, .. | a count of the form |
 //! | `until 13 looked`, `stays 6 turns` | that count is waited for; it stays this for a while |
 //! | `often 4000 lock` | the call is made so often; how often it was granted |
-//! | `look`, `look_beside` | what a call finds that looks at the lock, alone or beside one that looks on |
+//! | `look`, `look_beside` | what a call finds that looks at the lock, alone or beside one that looks on; `timed_out` as its looks are over |
 //! | `meets` | turns at the mutex, until one of them was had at a later try |
 
 use crate::spins::forms::{Forms, call, forms_of, meets, often};
@@ -131,7 +132,7 @@ fn is_single(rt: &impl Threads) -> bool {
     }
 }
 
-// Makes the moves of one thread beside the story's own; the first that was answered otherwise.
+// Makes the moves of one thread beside the story's own; the first that was answered otherwise, which ends the story.
 fn act<'t, H, R>(
     rt: &H,
     forms: &Forms<'_, R>,
@@ -150,11 +151,12 @@ where
                 return None;
             }
             let keep = match row.call.then().verb {
-                "holds" => Keep::Holds(stage),
+                "holds" | "keeps" => Keep::Holds(stage),
                 _ => Keep::Nothing,
             };
             let failed = Failed::unless(row, answer(rt, forms, &row.call, keep));
             if failed.is_some() {
+                stage.fail();
                 return failed;
             }
         }
@@ -164,7 +166,7 @@ where
 }
 
 // Makes the story's own moves.
-fn tell<'t, H, R>(
+fn lead_all<'t, H, R>(
     rt: &H,
     forms: &Forms<'_, R>,
     stage: &Stage,
@@ -181,33 +183,11 @@ where
             None => Failed::unless(row, answer(rt, forms, &row.call, Keep::Nothing)),
         };
         if failed.is_some() || stage.has_failed() {
+            stage.fail();
             return failed;
         }
     }
     None
-}
-
-// One thread's part of a story; the last thread is the story's own. A part that failed ends the others, as far as they wait for the story.
-fn part<'t, H, R>(
-    rt: &H,
-    forms: &Forms<'_, R>,
-    stage: &Stage,
-    moves: &[Move<'t>],
-    thread: usize,
-) -> Option<Failed<'t>>
-where
-    H: Wait + Clock + Threads + RandomSource + AllocGlobal,
-    R: Wait + Clock + Drop,
-{
-    let failed = if thread < THREADS {
-        act(rt, forms, stage, moves, thread)
-    } else {
-        tell(rt, forms, stage, moves)
-    };
-    if failed.is_some() {
-        stage.fail();
-    }
-    failed
 }
 
 /// The first row that is answered otherwise of a story of this form.
@@ -225,7 +205,12 @@ where
         rt,
         rt.alloc(),
         THREADS + 1,
-        &|thread| part(rt, &forms, &stage, rows, thread),
+        &|thread| {
+            if thread == THREADS {
+                return lead_all(rt, &forms, &stage, rows);
+            }
+            act(rt, &forms, &stage, rows, thread)
+        },
     )?;
     for _thread in 0..parts.len() {
         if let Some(Some(failed)) = parts.pop() {

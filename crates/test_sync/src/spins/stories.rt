@@ -5,19 +5,19 @@
 pub(crate) const THAT_LOOK: &str = "\
 semaphore few_none; acquire 63 holds; acquire; acquire 63; acquire_with; acquire_with 63; acquire_permit
 lock few_none; lock holds; lock; share; lock_with; share_with
-mutex few_none; mutex holds; mutex
+mutex few_none; lock holds; lock
 rwlock few_none; write holds; read; write";
 
 pub(crate) const TIMED: &str = "\
 semaphore few_none; acquire 63 holds; acquire_for
 lock few_none; lock holds; lock_for; lock_until
-mutex few_none; mutex holds; mutex_for
+mutex few_none; lock holds; lock_for
 rwlock few_none; write holds; read_for";
 
 pub(crate) const THAT_WAIT: &str = "\
 semaphore none_few; acquire 63 holds; acquire; acquire 63; acquire_with; acquire_with 63; acquire_permit; acquire_for
 lock none_few; lock holds; lock; share; lock_with; share_with; lock_for; lock_until
-mutex none_few; mutex holds; mutex; mutex_for
+mutex none_few; lock holds; lock; lock_for
 rwlock none_few; write holds; read; write; read_for";
 
 /// A call that is granted at once takes one turn at the mutex, and its end another. Beside a holder it tries before its first look and at it; then the hint says
@@ -56,8 +56,8 @@ t1 enter; until 1 parked; waited -> 13; waited_spins -> 9; waited_yields -> 4; t
 t1 enter; until 1 parked; looked -> 0; waited -> 26; turns -> 5; permit; t1 ends
 
 barrier none_few
-t1 arrive; until 1 parked; waited -> 13; waited_spins -> 9; waited_yields -> 4; turns -> 2; arrive_last; t1 ends
-t1 arrive; until 1 parked; looked -> 0; waited -> 26; turns -> 5; arrive_last; t1 ends
+t1 wait; until 1 parked; waited -> 13; waited_spins -> 9; waited_yields -> 4; turns -> 2; wait_last; t1 ends
+t1 wait; until 1 parked; looked -> 0; waited -> 26; turns -> 5; wait_last; t1 ends
 
 # Calls of no time don't spin: each joins and leaves, a pager in a turn each to register, to poll and to leave.
 lock none_looks
@@ -81,7 +81,7 @@ try; turns -> 2; try 3; turns -> 4; try_permit; turns -> 6; t2 acquire 63 holds;
 try_permit -> false; turns -> 10; looked -> 0; t2 goes; t2 ends; turns -> 11
 
 mutex few_none
-try_mutex; turns -> 2; t2 mutex holds; try_mutex -> false; turns -> 4; looked -> 0; t2 goes; t2 ends; turns -> 5
+try_lock; turns -> 2; t2 lock holds; try_lock -> false; turns -> 4; looked -> 0; t2 goes; t2 ends; turns -> 5
 
 rwlock few_none
 try_write; turns -> 2; try_read; turns -> 4; lower_write; turns -> 7; t2 write holds; try_read -> false; turns -> 9; try_write -> false; turns -> 10
@@ -120,6 +120,25 @@ t1 meets; t2 meets; t1 ends; t2 ends
 lock yields_none
 take; crowd page; until 1 parked; until 4 turns; t1 lock; until 1 lookers; until 6 turns; t2 lock; until 2 lookers; stays 6 turns; release_lock
 t1 ends; t2 ends; crowd ends; lookers -> 0
+
+# A call that looks for ever sees what lets it in: a downgrade, poison, a pager that is cancelled ahead of it, and a future that is dropped.
+lock yields_none
+take; t1 share; until 3 turns; downgrade; t1 ends; release_share; take; t1 share -> false; until 10 turns; poison_lock; t1 ends
+
+lock yields_none
+take; downgrade; t2 leave holds; t1 share; until 5 turns; t2 goes; t1 ends; t2 ends
+t2 drop_future holds; t1 share; until 11 turns; t2 goes; t1 ends; t2 ends; lookers -> 0; release_share
+
+# Grants come in the order of registrations: first a call that joins at once, and one whose looks are over.
+lock none_none
+take; t1 lock keeps; until 1 parked; t2 page; until 2 parked; release_lock; stays 1 parked; t1 goes; t1 ends; t2 ends
+
+lock few_none
+take; t1 lock keeps; until 1 parked; t2 page; until 2 parked; release_lock; stays 1 parked; t1 goes; t1 ends; t2 ends
+
+# A waiter that has registered is granted before all that look.
+lock yields_none
+take; t1 lock; t2 lock; until 2 lookers; crowd page keeps; until 1 parked; release_lock; stays 2 lookers; crowd goes; t1 ends; t2 ends; crowd ends; lookers -> 0
 
 # No wake is lost as calls give up looking and register, each of which sleeps at once.
 lock some_none
