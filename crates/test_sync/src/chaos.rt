@@ -173,7 +173,7 @@ where
         ended: AtomicUsize::new(0),
         done: AtomicUsize::new(0),
     };
-    map_indices(rt, rt.alloc(), THREADS + 1, &|number| passings.work(number))?;
+    let _done = map_indices(rt, rt.alloc(), THREADS + 1, &|number| passings.work(number))?;
     passings.gate.reset();
     Ok((
         passings.done.load(Ordering::SeqCst),

@@ -11,8 +11,10 @@ use std::sync::atomic::{AtomicU64, Ordering};
 use std::thread::{Threads, map_indices};
 use test_asserts::same;
 
-// How many members there are, and in how many rounds a newcomer takes part.
+// How many members there are, and how many with the newcomers; and in how many rounds a newcomer takes part.
 const MEMBERS: usize = 4;
+
+const ALL: usize = 8;
 
 const ROUNDS: usize = 3;
 
@@ -84,10 +86,10 @@ where
         passed: AtomicU64::new(0),
         complete: AtomicU64::new(0),
     };
-    map_indices(
+    let _done = map_indices(
         rt,
         rt.alloc(),
-        2 * MEMBERS,
+        ALL,
         &|number| meetings.take_part(rt, number),
     )?;
     Ok([

@@ -5,24 +5,17 @@ use saa_sync::gate::Gate;
 use saa_sync::lock::Lock;
 use saa_sync::semaphore::Semaphore;
 use std::sync::Wait;
-use std::sync::atomic::Ordering;
+use std::sync::atomic::Ordering::{self, AcqRel, Acquire, Relaxed, Release, SeqCst};
 use std::test::Fail;
 use test_asserts::{holds, same};
-
-static ORDERINGS: [Ordering; 4] = [
-    Ordering::Relaxed,
-    Ordering::Acquire,
-    Ordering::Release,
-    Ordering::AcqRel,
-];
 
 // Whether a reading is the same in every ordering.
 fn is_alike<A: PartialEq + Drop, F: Fn(Ordering) -> A>(read: &F) -> bool
     requires { F.IsAlwaysCallable read.now }
 {
-    let wanted = read(Ordering::SeqCst);
-    for mo in &ORDERINGS {
-        if read(*mo) != wanted {
+    let wanted = read(SeqCst);
+    for mo in [Relaxed, Acquire, Release, AcqRel] {
+        if read(mo) != wanted {
             return false;
         }
     }
@@ -81,7 +74,7 @@ fn a_barrier_reads_alike_in_every_ordering(rt: HostRuntime) -> Result<(), Fail> 
     for size in [0, 1, 2, 63, 64, usize::MAX] {
         let barrier = Barrier::with_count(&rt, rt.alloc(), size, 0)?;
         holds!(rt; is_alike(&|mo| (barrier.count(mo), barrier.round(mo))));
-        same!(rt; barrier.count(Ordering::SeqCst), size.min(63));
+        same!(rt; barrier.count(SeqCst), size.min(63));
     }
     same!(rt; (Lock::<&HostRuntime>::MAX_SHARED_OWNERS, Barrier::<&HostRuntime>::MAX_TASKS), (62, 63));
     Ok(())

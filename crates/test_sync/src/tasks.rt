@@ -25,29 +25,27 @@ where
     }
 }
 
-// A worked row: a future of three permits waits at a core, and is granted them once they are released. One that is cancelled there has ended.
+// A worked row: a future of three permits waits at a core, and is granted them once they are released.
 fn waits_at_a_core<R: Wait + Drop>(semaphore: &Semaphore<R>, core: &mut SemaphoreCore) -> bool {
-    let mut one = semaphore.acquire_async();
     let mut many = semaphore.acquire_many_async(3);
-    let before = [
-        one.poll_on(core) == Progress::Joined,
-        many.poll_on(core) == Progress::Joined,
-    ];
-    one.cancel_on(core);
-    if !one.has_ended() || many.has_ended() {
+    let first = many.poll_on(core);
+    if many.has_ended() {
         return false;
     }
-    let waits = many.poll_on(core) == Progress::Waits;
+    let second = many.poll_on(core);
     let is_released = core.release_many(3);
     if many.has_ended() {
         return false;
     }
-    let is_granted = many.poll_on(core) == Progress::Done(Ok(true));
-    before == [true; 2] && waits && is_released && is_granted && core.available_permits() == 0
+    let third = many.poll_on(core);
+    many.cancel_on(core);
+    [first, second, third] == [Progress::Joined, Progress::Waits, Progress::Done(Ok(true))]
+        && is_released
+        && core.available_permits() == 0
 }
 
 fn on_a_core<H: Wait + AllocGlobal>(rt: &H) -> io::Result<bool> {
-    let mut core = SemaphoreCore::with_permits(rt.alloc(), 0, 2)?;
+    let mut core = SemaphoreCore::with_permits(rt.alloc(), 0, 1)?;
     let semaphore = Semaphore::new(rt, rt.alloc(), 0)?;
     Ok(waits_at_a_core(&semaphore, &mut core))
 }
@@ -58,25 +56,33 @@ fn a_future_can_be_polled_on_a_core(rt: HostRuntime) {
 }
 
 // A future of a pager waits until its answer, which wakes its task, and is pending behind it, and wakes its task too; whether all is so.
-fn polled_past_its_answer<H: Wait + RandomSource + AllocGlobal>(rt: &H) -> io::Result<bool> {
+fn polled_past_its_answer<'s, R: Wait + Drop>(
+    gate: &'s Gate<R>,
+    task: &MockTask,
+    pager: &mut Pager<'s, Gate<R>>,
+) -> bool {
+    let has_joined = gate.register_pager(pager, false) == Ok(true);
+    let mut poll = pager.poll_async();
+    let early = polled(task, &mut poll);
+    let are_let_in = gate.permit() == Ok(1);
+    let is_woken = task.is_woken();
+    let late = polled(task, &mut poll);
+    let is_calm = !task.is_woken();
+    let past = polled(task, &mut poll);
+    let is_so = [has_joined, are_let_in, is_woken, is_calm, task.is_woken()];
+    is_so == [true; 5] && [early, late, past] == [None, Some(Ok(State::Controlled)), None]
+}
+
+fn past_its_answer<H: Wait + RandomSource + AllocGlobal>(rt: &H) -> io::Result<bool> {
     let task = MockTask::new(rt)?;
     let gate = Gate::new(rt, rt.alloc(), 1)?;
     let mut pager = Pager::new();
-    let has_joined = gate.register_pager(&mut pager, false) == Ok(true);
-    let mut poll = pager.poll_async();
-    let early = polled(&task, &mut poll);
-    let are_let_in = gate.permit() == Ok(1);
-    let is_woken = task.is_woken();
-    let late = polled(&task, &mut poll);
-    let is_calm = !task.is_woken();
-    let past = polled(&task, &mut poll);
-    let is_so = [has_joined, are_let_in, is_woken, is_calm, task.is_woken()];
-    Ok(is_so == [true; 5] && [early, late, past] == [None, Some(Ok(State::Controlled)), None])
+    Ok(polled_past_its_answer(&gate, &task, &mut pager) && !pager.is_registered())
 }
 
 #[test]
 fn a_pagers_future_is_pending_past_its_answer(rt: HostRuntime) {
-    same!(rt; polled_past_its_answer(&rt).ok(), Some(true));
+    same!(rt; past_its_answer(&rt).ok(), Some(true));
 }
 
 // Whether a future of two permits as values waits until the shut, and is answered that it is closed then.

@@ -21,6 +21,7 @@ use saa_sync::testing::{
 use std::alloc::{AllocError, AllocGlobal, Global};
 use std::random::RandomSource;
 use std::sync::Wait;
+use std::thread::{Threads, available_parallelism};
 use std::time::{Clock, Duration, Instant};
 use test_language::language::{Call, Time};
 
@@ -62,16 +63,9 @@ pub(crate) struct Forms<'t, R: Wait + Drop> {
 fn lock_of<R: Wait + Drop>(
     rt: R,
     alloc: Global,
-    policies: (SpinPolicy, SpinPolicy),
+    (calls, waiters): (SpinPolicy, SpinPolicy),
 ) -> Result<Lock<R>, AllocError> {
-    form_of(
-        rt,
-        alloc,
-        LockCore::new(alloc, ROOM)?,
-        ROOM,
-        policies.0,
-        policies.1,
-    )
+    form_of(rt, alloc, LockCore::new(alloc, ROOM)?, ROOM, calls, waiters)
 }
 
 /// The forms of a story that begins with this line.
@@ -80,18 +74,18 @@ pub(crate) fn forms_of<'t, R: Wait + Copy + Drop>(
     alloc: Global,
     line: &Call<'t>,
 ) -> Result<Forms<'t, R>, AllocError> {
-    let policies = policies(line.then().verb);
+    let (calls, waiters) = policies(line.then().verb);
     let permits = SemaphoreCore::with_permits(alloc, 63, ROOM)?;
     let gate = GateCore::new(alloc, ROOM)?;
     let barrier = BarrierCore::with_count(alloc, 2, ROOM)?;
     Ok(Forms {
         name: line.verb,
-        semaphore: form_of(rt, alloc, permits, ROOM, policies.0, policies.1)?,
-        lock: lock_of(rt, alloc, policies)?,
-        mutex: mutex_on(lock_of(rt, alloc, policies)?, 5),
-        rwlock: rwlock_on(lock_of(rt, alloc, policies)?, 5),
-        gate: form_of(rt, alloc, gate, ROOM, NONE, policies.1)?,
-        barrier: form_of(rt, alloc, barrier, ROOM, NONE, policies.1)?,
+        semaphore: form_of(rt, alloc, permits, ROOM, calls, waiters)?,
+        lock: lock_of(rt, alloc, (calls, waiters))?,
+        mutex: mutex_on(lock_of(rt, alloc, (calls, waiters))?, 5),
+        rwlock: rwlock_on(lock_of(rt, alloc, (calls, waiters))?, 5),
+        gate: form_of(rt, alloc, gate, ROOM, NONE, waiters)?,
+        barrier: form_of(rt, alloc, barrier, ROOM, NONE, waiters)?,
     })
 }
 
@@ -264,10 +258,13 @@ where
 
 // Waits for the lock until so long from now; whether it was granted.
 fn lock_until<R: Wait + Clock + Drop>(clock: &impl Clock, lock: &Lock<R>, long: Duration) -> bool {
-    let end = Instant::now(clock)
-        .ok()
-        .and_then(|now| now.checked_add(long));
-    end.is_some_and(|end| lock.lock_sync_until(end) == Ok(Some(true)))
+    let Ok(now) = Instant::now(clock) else {
+        return false;
+    };
+    match now.checked_add(long) {
+        Some(end) => lock.lock_sync_until(end) == Ok(Some(true)),
+        None => false,
+    }
 }
 
 // Waits for the lock by a pager; whether it was granted.
@@ -331,13 +328,13 @@ const ROUNDS: u32 = 10_000_000;
 
 const MEETINGS: u32 = 100;
 
-/// Takes turns at the lock's mutex until a call has had that at a later try; whether one has.
-pub(crate) fn meets<R: Wait + Drop>(forms: &Forms<'_, R>) -> bool {
+/// Takes turns at the lock's mutex until a call has had that at a later try; whether one has, or there is one processor, on which threads can't meet.
+pub(crate) fn meets<R: Wait + Drop>(rt: &impl Threads, forms: &Forms<'_, R>) -> bool {
     for round in 0..ROUNDS {
         call_untold(&forms.lock, |_core| ());
         if round.is_multiple_of(MEETINGS) && forms.count("met") != Some(0) {
             return true;
         }
     }
-    false
+    matches!(available_parallelism(rt), Ok(processors) if processors.get() == 1)
 }

@@ -23,7 +23,7 @@ use std::alloc::AllocGlobal;
 use std::io;
 use std::random::RandomSource;
 use std::sync::Wait;
-use std::thread::{Threads, available_parallelism, map_indices, yield_now};
+use std::thread::{Threads, map_indices, yield_now};
 use std::time::Clock;
 use test_language::language::{Call, Failed, Move, Subject};
 use test_language::reply::{Replies, Reply, number};
@@ -116,19 +116,11 @@ where
             add_looker(&forms.lock);
             look_on(&forms.lock, Mode::Exclusive).reply()
         }
-        "meets" => (meets(forms) || is_single(rt)).reply(),
+        "meets" => meets(rt, forms).reply(),
         _ => match forms.count(row.verb) {
             Some(count) => number(count as usize),
             None => call(rt, forms, row, keep).reply(),
         },
-    }
-}
-
-// Whether threads can't meet, since there is one processor.
-fn is_single(rt: &impl Threads) -> bool {
-    match available_parallelism(rt) {
-        Ok(processors) => processors.get() == 1,
-        Err(_) => false,
     }
 }
 

@@ -58,10 +58,11 @@ impl Stage {
 
     /// Waits until a thread is done with its moves up to this one.
     pub(crate) fn awaits_end(&self, rt: &impl Wait, thread: usize, at: usize) {
+        let Some(ended) = self.ended.get(thread) else {
+            return;
+        };
         for _ in rt.forever() {
-            let ended = self.ended.get(thread);
-            let has_ended = ended.is_none_or(|ended| ended.load(Ordering::SeqCst) > at);
-            if has_ended || self.has_failed() {
+            if self.has_failed() || ended.load(Ordering::SeqCst) > at {
                 return;
             }
             yield_now();
