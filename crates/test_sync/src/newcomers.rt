@@ -11,10 +11,8 @@ use std::sync::atomic::{AtomicU64, Ordering};
 use std::thread::{Threads, map_indices};
 use test_asserts::same;
 
-// How many members there are, and how many with the newcomers; and in how many rounds a newcomer takes part.
+// How many members there are, and in how many rounds a newcomer takes part.
 const MEMBERS: usize = 4;
-
-const ALL: usize = 8;
 
 const ROUNDS: usize = 3;
 
@@ -31,13 +29,8 @@ struct Meetings<R: Wait + Drop> {
 }
 
 impl<R: Wait + Drop> Meetings<R> {
-    // Takes part in so many rounds, by calls or as a task; whether there was room in each.
-    fn meet<H: Wait + RandomSource + AllocGlobal>(
-        &self,
-        rt: &H,
-        is_task: bool,
-        rounds: usize,
-    ) -> bool {
+    // Takes part in so many rounds, by calls or as a task.
+    fn meet<H: Wait + RandomSource + AllocGlobal>(&self, rt: &H, is_task: bool, rounds: usize) {
         for _round in 0..rounds {
             let answer = if is_task {
                 block_on(rt, self.barrier.wait_async()).ok()
@@ -45,12 +38,11 @@ impl<R: Wait + Drop> Meetings<R> {
                 Some(self.barrier.wait_sync())
             };
             let Some(Ok(is_leader)) = answer else {
-                return false;
+                return;
             };
             add(&self.passed, true);
             add(&self.complete, is_leader);
         }
-        true
     }
 
     // Member n brings in a newcomer in round n, which can't be complete before the member arrives, and leaves after that round. Each second one is a task.
@@ -89,7 +81,7 @@ where
     let _done = map_indices(
         rt,
         rt.alloc(),
-        ALL,
+        2 * MEMBERS,
         &|number| meetings.take_part(rt, number),
     )?;
     Ok([
