@@ -31,7 +31,7 @@ use test_language::reply::{Replies, Reply, number};
 // How often the story gives way to others before it says what it sees, and how long a count has to stay as it is. A call needs a few turns of its thread.
 const MOST_TURNS: u32 = 3_000_000;
 
-const STAYS: u32 = 2_000;
+const STAYS: u32 = 500;
 
 // The thread that makes a move, if it isn't the story's own.
 fn thread_of(call: &Call<'_>) -> Option<usize> {
