@@ -1,114 +1,80 @@
-//! Every ordering on every call that only reads, of every form, in every state that the call tells apart.
+//! Every ordering on every call that only reads, of every form, in every state that the call tells apart: the answer is that of `SeqCst`.
 
 use saa_sync::barrier::Barrier;
-use saa_sync::gate::{Gate, State};
+use saa_sync::gate::Gate;
 use saa_sync::lock::Lock;
 use saa_sync::semaphore::Semaphore;
 use std::sync::Wait;
-use std::sync::atomic::Ordering;
+use std::sync::atomic::Ordering::{self, AcqRel, Acquire, Relaxed, Release, SeqCst};
 use std::test::Fail;
 use test_asserts::{holds, same};
 
-static ORDERINGS: [Ordering; 5] = [
-    Ordering::Relaxed,
-    Ordering::Acquire,
-    Ordering::Release,
-    Ordering::AcqRel,
-    Ordering::SeqCst,
-];
-
-// Whether a lock is told to be this in every ordering: free, locked, shared, poisoned.
-fn lock_is<R: Wait + Drop>(lock: &Lock<R>, wanted: [bool; 4]) -> bool {
-    for mo in &ORDERINGS {
-        let told = [
-            lock.is_free(*mo),
-            lock.is_locked(*mo),
-            lock.is_shared(*mo),
-            lock.is_poisoned(*mo),
-        ];
-        if told != wanted {
+// Whether a reading is the same in every ordering.
+fn is_alike<A: PartialEq + Drop, F: Fn(Ordering) -> A>(read: &F) -> bool
+    requires { F.IsAlwaysCallable read.now }
+{
+    let wanted = read(SeqCst);
+    for mo in [Relaxed, Acquire, Release, AcqRel] {
+        if read(mo) != wanted {
             return false;
         }
     }
     true
 }
 
-// Whether a semaphore is told to have so many permits in every ordering.
-fn semaphore_has<R: Wait + Drop>(semaphore: &Semaphore<R>, permits: usize) -> bool {
-    for mo in &ORDERINGS {
-        let told = (
-            semaphore.available_permits(*mo),
-            semaphore.is_open(*mo),
-            semaphore.is_closed(*mo),
-        );
-        if told != (permits, permits != 0, permits == 0) {
-            return false;
-        }
-    }
-    true
+fn lock_is_alike<R: Wait + Drop>(lock: &Lock<R>) -> bool {
+    is_alike(&|mo| {
+        [
+            lock.is_free(mo),
+            lock.is_locked(mo),
+            lock.is_shared(mo),
+            lock.is_poisoned(mo),
+        ]
+    })
 }
 
-// Whether a gate is told to be in this state in every ordering.
-fn gate_is<R: Wait + Drop>(gate: &Gate<R>, state: State) -> bool {
-    for mo in &ORDERINGS {
-        if gate.state(*mo) != state {
-            return false;
-        }
-    }
-    true
-}
-
-// Whether a barrier is told to wait for so many in every ordering.
-fn barrier_misses<R: Wait + Drop>(barrier: &Barrier<R>, count: usize) -> bool {
-    for mo in &ORDERINGS {
-        if barrier.count(*mo) != count {
-            return false;
-        }
-    }
-    true
-}
-
-// Free, locked, shared, and poisoned.
+// A lock that is free, owned, shared, and poisoned.
 #[test]
 fn a_lock_reads_alike_in_every_ordering(rt: HostRuntime) -> Result<(), Fail> {
     let lock = Lock::new(&rt, rt.alloc(), 0)?;
-    holds!(rt; lock_is(&lock, [true, false, false, false]) && lock.try_lock().is_ok());
-    holds!(rt; lock_is(&lock, [false, true, false, false]) && lock.downgrade());
-    holds!(rt; lock_is(&lock, [false, false, true, false]) && lock.release_share());
-    holds!(rt; lock.try_lock().is_ok() && lock.poison_lock());
-    holds!(rt; lock_is(&lock, [false, false, false, true]));
+    holds!(rt; lock_is_alike(&lock) && lock.try_lock() == Ok(()));
+    holds!(rt; lock_is_alike(&lock) && lock.downgrade());
+    holds!(rt; lock_is_alike(&lock) && lock.release_share());
+    holds!(rt; lock.try_lock() == Ok(()) && lock.poison_lock());
+    holds!(rt; lock_is_alike(&lock));
     Ok(())
 }
 
-// With two permits, with one, and with none.
+// A semaphore with two permits, with one, and with none.
 #[test]
 fn a_semaphore_reads_alike_in_every_ordering(rt: HostRuntime) -> Result<(), Fail> {
     let semaphore = Semaphore::with_permits(&rt, rt.alloc(), 2, 0)?;
-    for left in [2, 1, 0] {
-        holds!(rt; semaphore_has(&semaphore, left));
-        same!(rt; semaphore.try_acquire(), left != 0);
+    for _taken in 0..3 {
+        holds!(rt; is_alike(&|mo| (semaphore.available_permits(mo), semaphore.is_open(mo), semaphore.is_closed(mo))));
+        semaphore.try_acquire();
     }
     Ok(())
 }
 
-// Controlled, sealed, and open.
+// A gate that is controlled, sealed, and open.
 #[test]
 fn a_gate_reads_alike_in_every_ordering(rt: HostRuntime) -> Result<(), Fail> {
     let gate = Gate::new(&rt, rt.alloc(), 0)?;
-    holds!(rt; gate_is(&gate, State::Controlled));
-    let _before = gate.seal();
-    holds!(rt; gate_is(&gate, State::Sealed));
-    let _before = gate.open();
-    holds!(rt; gate_is(&gate, State::Open));
+    let controlled = is_alike(&|mo| gate.state(mo));
+    gate.seal();
+    let sealed = is_alike(&|mo| gate.state(mo));
+    gate.open();
+    same!(rt; [controlled, sealed, is_alike(&|mo| gate.state(mo))], [true; 3]);
     Ok(())
 }
 
-// For none, for some, and for more than there may be.
+// A barrier for none, for some, and for more than there may be.
 #[test]
 fn a_barrier_reads_alike_in_every_ordering(rt: HostRuntime) -> Result<(), Fail> {
     for size in [0, 1, 2, 63, 64, usize::MAX] {
         let barrier = Barrier::with_count(&rt, rt.alloc(), size, 0)?;
-        holds!(rt; barrier_misses(&barrier, size.min(63)));
+        holds!(rt; is_alike(&|mo| (barrier.count(mo), barrier.round(mo))));
+        same!(rt; barrier.count(SeqCst), size.min(63));
     }
     same!(rt; (Lock::<&HostRuntime>::MAX_SHARED_OWNERS, Barrier::<&HostRuntime>::MAX_TASKS), (62, 63));
     Ok(())

@@ -1,49 +1,22 @@
-//! What forms and guards print.
+//! What forms and guards print. A form prints its core and its room; `test_core` has what each core prints.
 
 use saa_sync::pager::Pager;
-use saa_sync::{Barrier, Gate, Lock, Mutex, RwLock, SemaphoreOf};
-use std::alloc::{AllocError, Global};
-use std::fmt::Debug;
+use saa_sync::{Mutex, RwLock, SemaphoreOf};
 use std::test::Fail;
-use test_asserts::holds;
-
-// Whether this is printed.
-fn prints<T: Debug>(alloc: Global, shown: &T, wanted: &str) -> Result<bool, AllocError> {
-    Ok(format!(in alloc; "{shown:?}")?.as_str() == wanted)
-}
+use test_asserts::{holds, same};
 
 #[test]
 fn a_semaphore_shows_what_is_available_who_waits_and_its_room(rt: HostRuntime) -> Result<(), Fail> {
     let permits = SemaphoreOf::<_, 5>::new(&rt, rt.alloc(), 3)?;
     let four = permits.try_acquire_permits(4);
     let mut pager = Pager::new();
-    holds!(rt; permits.register_pager(&mut pager, 2, true) == Ok(true));
-    holds!(rt; permits.waiting() == 1);
-    holds!(rt; permits.room() == 3);
-    let waits = "Form { core: SemaphoreCore { available_permits: 1, waiting: 1 }, room: 3 }";
-    holds!(rt; prints(rt.alloc(), &permits, waits)?);
-    holds!(rt; prints(rt.alloc(), &four, "Some(Permits { count: 4, .. })")?);
+    same!(rt; permits.register_pager(&mut pager, 2, true), Ok(true));
+    same!(rt; (permits.waiting(), permits.room()), (1, 3));
+    let waits =
+        "Form { core: SemaphoreCore { available_permits: 1, waiting: 1 }, room: 3 } Some(Permits { count: 4, .. })";
+    holds!(rt; format!(in rt.alloc(); "{permits:?} {four:?}")?.as_str() == waits);
     drop(four);
-    holds!(rt; permits.waiting() == 0);
-    Ok(())
-}
-
-#[test]
-fn other_forms_show_their_state(rt: HostRuntime) -> Result<(), Fail> {
-    let lock = Lock::new(&rt, rt.alloc(), 1)?;
-    let _told = lock.try_lock();
-    let mut pager = Pager::new();
-    holds!(rt; lock.register_pager(&mut pager, saa_sync::lock::Mode::Shared, true) == Ok(true));
-    holds!(rt; lock.waiting() == 1);
-    let held =
-        "Form { core: LockCore { locked: true, share_count: 0, poisoned: false, waiting: 1 }, room: 1 }";
-    holds!(rt; prints(rt.alloc(), &lock, held)?);
-    let gate = Gate::new(&rt, rt.alloc(), 0)?;
-    let controlled = "Form { core: GateCore { state: Controlled, waiting: 0 }, room: 0 }";
-    holds!(rt; prints(rt.alloc(), &gate, controlled)?);
-    let barrier = Barrier::with_count(&rt, rt.alloc(), 3, 2)?;
-    let empty = "Form { core: BarrierCore { count: 3, waiting: 0 }, room: 2 }";
-    holds!(rt; prints(rt.alloc(), &barrier, empty)?);
+    same!(rt; permits.waiting(), 0);
     Ok(())
 }
 

@@ -1,5 +1,5 @@
 //! Rooms are filled to their last slot and one more: each slot has a place for a task's waker and a parker of its own, and the next
-//! call is told that the room is full. At a semaphore, since places and parkers are those of every form; small rooms of the others
+//! call is answered that the room is full. At a semaphore, since places and parkers are those of every form; small rooms of the others
 //! are filled by their stories.
 
 use crate::tasks::polled;
@@ -15,8 +15,6 @@ use std::random::RandomSource;
 use std::sync::Wait;
 use test_asserts::same;
 
-static ROOMS: [u16; 5] = [1, 20, 32, 300, u16::MAX];
-
 // A future, and the task that polls it.
 #[derive(Drop)]
 struct Asker<'s, R: Wait + Drop> {
@@ -28,9 +26,9 @@ struct Asker<'s, R: Wait + Drop> {
 fn askers<'s, H: RandomSource + AllocGlobal, R: Wait + Drop>(
     rt: &H,
     semaphore: &'s Semaphore<R>,
-    room: u16,
+    room: usize,
 ) -> io::Result<Vec<Asker<'s, R>>> {
-    let mut askers = Vec::with_capacity(rt.alloc(), usize::from(room))?;
+    let mut askers = Vec::with_capacity(rt.alloc(), room)?;
     for number in 0..room {
         let is_last = number == room.saturating_sub(1);
         let count = usize::from(number == 0).saturating_add(usize::from(is_last));
@@ -43,22 +41,19 @@ fn askers<'s, H: RandomSource + AllocGlobal, R: Wait + Drop>(
 }
 
 // Polls each by its task; how many are granted.
-fn granted<R: Wait + Drop>(askers: &mut [Asker<'_, R>]) -> u16 {
-    let mut granted = 0u16;
+fn granted<R: Wait + Drop>(askers: &mut [Asker<'_, R>]) -> usize {
+    let mut granted = 0usize;
     for asker in askers {
         let is_granted = matches!(polled(&asker.task, &mut asker.future), Some(Ok(true)));
-        granted = granted.saturating_add(u16::from(is_granted));
+        granted = granted.saturating_add(usize::from(is_granted));
     }
     granted
 }
 
-// How many of these tasks are woken.
-fn woken<R: Wait + Drop>(askers: &[Asker<'_, R>]) -> u16 {
-    let mut woken = 0u16;
-    for asker in askers {
-        woken = woken.saturating_add(u16::from(asker.task.is_woken()));
-    }
-    woken
+// How many tasks are woken, and how many parkers notified.
+fn woken<R: Wait + Drop>(semaphore: &Semaphore<R>, askers: &[Asker<'_, R>]) -> [usize; 2] {
+    let woken = askers.iter().filter(|asker| asker.task.is_woken()).count();
+    [woken, semaphore.counts().notified()]
 }
 
 // As many wait as there is room, none of their tasks is woken, and one more is refused. A permit is released, and each but the last is
@@ -66,45 +61,34 @@ fn woken<R: Wait + Drop>(askers: &[Asker<'_, R>]) -> u16 {
 fn is_filled<R: Wait + Drop>(
     semaphore: &Semaphore<R>,
     askers: &mut [Asker<'_, R>],
-    room: u16,
+    room: usize,
 ) -> bool {
-    let early = [granted(askers), woken(askers)];
+    let early = [granted(askers), woken(semaphore, askers)[0]];
     let mut late = Pager::new();
     let is_full = semaphore.register_pager(&mut late, 0, false) == Err(Full);
     let are_released = semaphore.release();
-    let most = (woken(askers), semaphore.counts().notified());
+    let most = woken(semaphore, askers);
     let is_released = semaphore.release();
-    let all = (woken(askers), semaphore.counts().notified());
-    let but_one = room.saturating_sub(1);
+    let all = woken(semaphore, askers);
     early == [0, 0]
         && is_full
         && are_released
-        && most == (but_one, usize::from(but_one))
+        && most == [room.saturating_sub(1); 2]
         && is_released
-        && all == (room, usize::from(room))
+        && all == [room; 2]
         && granted(askers) == room
 }
 
-fn is_filled_by_tasks<H: RandomSource + AllocGlobal, R: Wait + Drop>(
-    rt: &H,
-    semaphore: &Semaphore<R>,
-    room: u16,
-) -> io::Result<bool> {
-    Ok(is_filled(semaphore, &mut askers(rt, semaphore, room)?, room))
-}
-
-// The first of these rooms that isn't as it must be.
-fn first_other<H: Wait + RandomSource + AllocGlobal>(rt: &H) -> io::Result<Option<u16>> {
-    for room in &ROOMS {
-        let semaphore = Semaphore::with_permits(rt, rt.alloc(), 0, *room)?;
-        if !is_filled_by_tasks(rt, &semaphore, *room)? {
-            return Ok(Some(*room));
-        }
-    }
-    Ok(None)
+fn is_filled_by_tasks<H: Wait + RandomSource + AllocGlobal>(rt: &H, room: u16) -> io::Result<bool> {
+    let semaphore = Semaphore::with_permits(rt, rt.alloc(), 0, room)?;
+    let room = usize::from(room);
+    let mut askers = askers(rt, &semaphore, room)?;
+    Ok(is_filled(&semaphore, &mut askers, room))
 }
 
 #[test]
 fn every_room_is_filled(rt: HostRuntime) {
-    same!(rt; first_other(&rt).ok(), Some(None));
+    for room in [1, 20, 32, 300, u16::MAX] {
+        same!(rt; (room, is_filled_by_tasks(&rt, room).ok()), (room, Some(true)));
+    }
 }

@@ -1,25 +1,24 @@
 //! Wakers go out with the mutex free: a wake lasts until another thread has locked the mutex many times.
 
 use crate::tasks::polled;
-use crate::wakers::Told::{Moved, Nothing, Passage, Passed};
 use futures::Future;
 use futures::task::{Doorbell, Poll as Polled, Solo};
 use futures::test::MockTask;
 use saa_core::Primitive;
-use saa_core::ticket::Full;
 use saa_sync::future::Enter;
-use saa_sync::gate::{Error, Gate, State};
+use saa_sync::gate::{Gate, State};
 use saa_sync::pager::Pager;
-use saa_sync::testing::call_untold;
+use saa_sync::testing::{Counted, call_untold};
 use std::alloc::AllocGlobal;
 use std::fs::Files;
 use std::io::{PipeReader, PipeWriter, Read, Write};
 use std::os::fd::OwnedFd;
 use std::random::RandomSource;
 use std::sync::Wait;
-use std::sync::atomic::{AtomicBool, Ordering};
+use std::sync::atomic::Ordering;
 use std::thread::{Threads, yield_now};
 use std::{io, thread};
+use test_asserts::same;
 
 // As many bytes as a pipe takes before a write waits.
 const PIPE: usize = 65_536;
@@ -69,15 +68,15 @@ impl Slow {
     }
 }
 
-// Waits until the other thread is at its call, takes the lock many times, and only then makes room in the pipe.
+// Waits until the other thread's call has had the mutex, takes that many times, and only then makes room in the pipe.
 fn lock_then_read<R: Wait + Drop>(
     rt: &impl Wait,
     gate: &Gate<R>,
-    has_begun: &AtomicBool,
+    before: u64,
     reader: &PipeReader,
 ) -> bool {
     for _ in rt.forever() {
-        if has_begun.load(Ordering::SeqCst) {
+        if gate.counts().turns() != before {
             break;
         }
         yield_now();
@@ -91,12 +90,11 @@ fn lock_then_read<R: Wait + Drop>(
     end.read(&mut bytes).is_ok()
 }
 
-// What brings the waker of a slow task out of a gate: it goes out with the mutex free, and so its wake lasts until the other thread reads from the
-// pipe.
-#[derive(Clone, Copy, PartialEq)]
-pub(crate) enum Out {
+// What brings the waker of a slow task out of a gate.
+#[derive(Clone, Copy, Debug, PartialEq)]
+enum Out {
+    // An answer: it is the only one, or that of a quick task is taken out together with it, and first.
     Answer,
-    // A quick task is answered too, whose waker is taken out together with that of the slow one, and first.
     AnswerOfTwo,
     // The future or the pager is dropped or cancelled.
     Future,
@@ -106,20 +104,17 @@ pub(crate) enum Out {
     PagersAnswer,
 }
 
-// What that tells.
-#[derive(Clone, Copy, PartialEq)]
-pub(crate) enum Told {
-    // Nothing: a future or a pager was dropped.
-    Nothing,
-    // How many the gate let pass.
-    Moved(Result<usize, State>),
-    // A poll of a future, and of a pager, if it was ready.
-    Passage(Option<Result<Result<State, Error>, Full>>),
-    Passed(Option<Result<State, Error>>),
-}
+const OUTS: [Out; 6] = [
+    Out::Answer,
+    Out::AnswerOfTwo,
+    Out::Future,
+    Out::Pager,
+    Out::FuturesAnswer,
+    Out::PagersAnswer,
+];
 
-// What another task is told that polls a future.
-fn told_another<H: RandomSource + AllocGlobal, F: Future>(
+// What another task is answered that polls a future.
+fn polled_by_another<H: RandomSource + AllocGlobal, F: Future>(
     rt: &H,
     future: &mut F,
 ) -> Option<F::Output>
@@ -129,31 +124,32 @@ where
     polled(&MockTask::new(rt).ok()?, future)
 }
 
-// Brings the waker out; what that tells.
+// Brings the waker out; whether that is answered as it must be.
 fn bring<'s, H: RandomSource + AllocGlobal, R: Wait + Drop>(
     rt: &H,
     gate: &'s Gate<R>,
     future: &mut Enter<'s, R>,
     pager: &mut Pager<'s, Gate<R>>,
     out: Out,
-) -> Told {
+) -> bool {
+    let passed = Ok(State::Controlled);
     match out {
-        Out::Answer | Out::AnswerOfTwo => Moved(gate.permit()),
+        Out::Answer => gate.permit() == Ok(1),
+        Out::AnswerOfTwo => gate.permit() == Ok(2),
         Out::Future => {
             *future = gate.enter_async();
-            Nothing
+            true
         }
         Out::Pager => {
             pager.cancel();
-            Nothing
+            true
         }
-        Out::FuturesAnswer => Passage(told_another(rt, future)),
-        Out::PagersAnswer => Passed(told_another(rt, &mut pager.poll_async())),
+        Out::FuturesAnswer => polled_by_another(rt, future) == Some(Ok(passed)),
+        Out::PagersAnswer => polled_by_another(rt, &mut pager.poll_async()) == Some(passed),
     }
 }
 
-// Brings a waker out, while another thread takes the lock many times before it reads; what the one is told, and whether the other
-// has read.
+// Brings the waker out, while another thread takes the mutex many times before it reads; whether the one is answered as it must be, and the other has read.
 fn bring_beside<'s, H: Threads + Wait + RandomSource + AllocGlobal + Sync, R: Wait + Drop + Sync>(
     rt: &H,
     gate: &'s Gate<R>,
@@ -161,15 +157,12 @@ fn bring_beside<'s, H: Threads + Wait + RandomSource + AllocGlobal + Sync, R: Wa
     future: &mut Enter<'s, R>,
     pager: &mut Pager<'s, Gate<R>>,
     out: Out,
-) -> (Told, bool) {
-    let has_begun = AtomicBool::new(false);
+) -> (bool, bool) {
+    let before = gate.counts().turns();
     thread::join(
         rt,
-        || {
-            has_begun.store(true, Ordering::SeqCst);
-            bring(rt, gate, future, pager, out)
-        },
-        || lock_then_read(rt, gate, &has_begun, reader),
+        || bring(rt, gate, future, pager, out),
+        || lock_then_read(rt, gate, before, reader),
     )
 }
 
@@ -181,14 +174,13 @@ fn answer_untold<R: Wait + Drop>(gate: &Gate<R>) -> bool {
     )
 }
 
-// The slow task polls a future, or a pager, and its waker is brought out while it sleeps; whether it slept, the waiter was answered first
-// where that is wanted, this was told, the other thread has read, and a future that is answered tells its task so. It joins by the first
-// poll.
+// The slow task polls a future, or a pager, and its waker is brought out while it sleeps; whether it slept, the waiter was answered first where that is
+// wanted, the other thread has read, and a future that is answered says so to its task. It joins by the first poll.
 fn is_out_at<H: Threads + Wait + RandomSource + AllocGlobal + Sync, R: Wait + Drop + Sync>(
     rt: &H,
     gate: &Gate<R>,
     slow: &mut Slow,
-    (out, wanted): (Out, Told),
+    out: Out,
 ) -> bool {
     let mut future = gate.enter_async();
     let mut pager = Pager::new();
@@ -207,39 +199,33 @@ fn is_out_at<H: Threads + Wait + RandomSource + AllocGlobal + Sync, R: Wait + Dr
     };
     let is_taken = matches!(out, Out::FuturesAnswer | Out::PagersAnswer);
     let is_answered = !is_taken || answer_untold(gate);
-    let (told, has_read) = bring_beside(rt, gate, &slow.reader, &mut future, &mut pager, out);
+    let (is_right, has_read) = bring_beside(rt, gate, &slow.reader, &mut future, &mut pager, out);
     asleep.end();
     let is_late = !matches!(out, Out::Answer | Out::AnswerOfTwo) || slow.poll(&mut future);
-    is_answered && told == wanted && has_read && is_late
+    is_answered && is_right && has_read && is_late
 }
 
-// The same behind a quick task, which is woken by the same step where both are answered.
-fn is_out_behind<H: Threads + Wait + RandomSource + AllocGlobal + Sync, R: Wait + Drop + Sync>(
+// The same at a new gate: behind a quick task where both are answered, or alone.
+fn is_out<H: Files + Threads + Wait + RandomSource + AllocGlobal + Sync>(
     rt: &H,
-    gate: &Gate<R>,
-    slow: &mut Slow,
-    quick: &MockTask,
-    out: (Out, Told),
-) -> bool {
-    let mut one = gate.enter_async();
-    let early = polled(quick, &mut one);
-    let is_behind = is_out_at(rt, gate, slow, out);
-    let is_woken = quick.is_woken();
-    early.is_none() && is_woken && polled(quick, &mut one).is_some() && is_behind
-}
-
-// The same at a new gate, with room for so many waiters: behind a quick task where both are answered, or alone.
-pub(crate) fn is_out<H: Files + Threads + Wait + RandomSource + AllocGlobal + Sync>(
-    rt: &H,
-    quick: &MockTask,
-    room: u16,
-    out: (Out, Told),
+    out: Out,
 ) -> io::Result<bool> {
     let mut slow = Slow::new(rt)?;
-    let gate = Gate::new(rt, rt.alloc(), room)?;
-    if out.0 == Out::AnswerOfTwo {
-        Ok(is_out_behind(rt, &gate, &mut slow, quick, out))
-    } else {
-        Ok(is_out_at(rt, &gate, &mut slow, out))
+    let quick = MockTask::new(rt)?;
+    let gate = Gate::new(rt, rt.alloc(), 2)?;
+    if out != Out::AnswerOfTwo {
+        return Ok(is_out_at(rt, &gate, &mut slow, out));
+    }
+    let mut one = gate.enter_async();
+    let is_early = polled(&quick, &mut one).is_some();
+    let is_behind = is_out_at(rt, &gate, &mut slow, out);
+    let is_woken = quick.is_woken() && polled(&quick, &mut one).is_some();
+    Ok(!is_early && is_behind && is_woken)
+}
+
+#[test]
+fn each_waker_goes_out_with_the_mutex_free(rt: HostRuntime) {
+    for out in OUTS {
+        same!(rt; (out, is_out(&rt, out).ok()), (out, Some(true)));
     }
 }
