@@ -1,4 +1,4 @@
-//! The sequential object in plain code, for four names: slow, small, and written apart from the cores and their definitions.
+//! The sequential specification in plain code, for four names: slow, small, and written apart from the cores and their definitions.
 //!
 //! It has no queue: each name that waits has the number of its turn, and the oldest waiter is the one with the least. It is called in the language of
 //! `test_language`, and answers in it.
@@ -49,7 +49,7 @@ enum Entry {
     Answered(Request, Reply, bool),
 }
 
-/// The object: what is held, what is known of each name, the room, and how many turns were given.
+/// The state: what is held, what is known of each name, the room, and how many turns were given.
 #[derive(Clone, Copy)]
 pub(crate) struct Model {
     held: Held,
