@@ -1,31 +1,17 @@
-//! Worked rows of each core, of the queue under them, and of words, beside what the contracts say of every run; lists of moves beside a plain model,
-//! written apart from the definitions; and what threads made together under a journal.
+//! Worked rows of each core and of words, beside what the contracts say of every run; what cores print; lists of moves beside a plain model, written apart
+//! from the definitions; and the history that threads wrote in a journal.
 #![tactic(auto)]
 
-#[cfg(test)]
-mod barrier;
 #[cfg(test)]
 mod bench;
 #[cfg(test)]
 mod beside;
 #[cfg(test)]
-mod gate;
-#[cfg(test)]
 mod journal;
-#[cfg(test)]
-mod line;
-#[cfg(test)]
-mod lock;
 #[cfg(test)]
 mod model;
 #[cfg(test)]
-mod numbers;
+mod stories;
 #[cfg(test)]
-mod printed;
-#[cfg(test)]
-mod progress;
-#[cfg(test)]
-mod told;
+mod values;
 pub mod widths;
-#[cfg(test)]
-mod words;

@@ -1,4 +1,4 @@
-//! The sequential object in plain code, for four names: slow, small, and written apart from the cores and their definitions.
+//! The sequential specification in plain code, for four names: slow, small, and written apart from the cores and their definitions.
 //!
 //! It has no queue: each name that waits has the number of its turn, and the oldest waiter is the one with the least. It is called in the language of
 //! `test_language`, and answers in it.
@@ -30,7 +30,7 @@ pub(crate) enum Held {
     Barrier(usize, usize, usize),
 }
 
-// What a name asks: so many permits, a lock in this mode, or to pass a gate or a barrier.
+// What a name requests: so many permits, a lock in this mode, or to pass a gate or a barrier.
 #[derive(Clone, Copy)]
 enum Need {
     Permits(usize),
@@ -38,18 +38,18 @@ enum Need {
     Pass,
 }
 
-// What a name asked, and whether as sync.
-type Asked = (Need, bool);
+// The request of a name, and whether as sync.
+type Request = (Need, bool);
 
 // What is known of a name: it is idle; it waits since this turn; or it was answered this, and holds its slot still or never had one.
 #[derive(Clone, Copy)]
 enum Entry {
     Idle,
-    Waiting(Asked, usize),
-    Answered(Asked, Reply, bool),
+    Waiting(Request, usize),
+    Answered(Request, Reply, bool),
 }
 
-/// The object: what is held, what is known of each name, the room, and how many turns were given.
+/// The state: what is held, what is known of each name, the room, and how many turns were given.
 #[derive(Clone, Copy)]
 pub(crate) struct Model {
     held: Held,
@@ -111,7 +111,7 @@ impl Model {
         }
     }
 
-    // What a name is told that was granted.
+    // The answer of a name that was granted.
     fn grant(&self) -> Reply {
         match self.held {
             Held::Permits(..) => word(ReplyWord::Ok),
@@ -144,13 +144,13 @@ impl Model {
             .count()
     }
 
-    // The name that waits since the least turn, and what it asked.
-    fn oldest(&self) -> Option<(usize, Asked)> {
+    // The name that waits since the least turn, and its request.
+    fn oldest(&self) -> Option<(usize, Request)> {
         let (mut oldest, mut least) = (None, usize::MAX);
         for (name, entry) in self.entries.iter().enumerate() {
             match *entry {
-                Entry::Waiting(asked, turn) if turn < least => {
-                    oldest = Some((name, asked));
+                Entry::Waiting(request, turn) if turn < least => {
+                    oldest = Some((name, request));
                     least = turn;
                 }
                 _ => {}
@@ -220,12 +220,12 @@ impl Model {
         }
     }
 
-    // Answers at most so many waiters, the oldest first, which keep their slots; and tells how many they were.
+    // Answers at most so many waiters, the oldest first, which keep their slots; and says how many they were.
     fn answer_front(&mut self, most: usize, reply: Reply) -> usize {
         let count = most.min(self.waiting());
         for _waiter in 0..count {
-            if let Some((name, asked)) = self.oldest() {
-                self.set(name, Entry::Answered(asked, reply, true));
+            if let Some((name, request)) = self.oldest() {
+                self.set(name, Entry::Answered(request, reply, true));
             }
         }
         count
@@ -280,41 +280,41 @@ impl Model {
         if !is_idle || is_too_much {
             return Ok(false);
         }
-        let asked = (need, is_sync);
+        let request = (need, is_sync);
         if let Some(reply) = self.at_once(need) {
-            self.set(name, Entry::Answered(asked, reply, false));
+            self.set(name, Entry::Answered(request, reply, false));
         } else if self.used() == self.room {
             return Err(Full);
         } else {
             self.turns = self.turns.saturating_add(1);
-            self.set(name, Entry::Waiting(asked, self.turns));
+            self.set(name, Entry::Waiting(request, self.turns));
         }
         Ok(true)
     }
 
     // Polls a name as sync or as async, or by a try, which may be either.
     fn poll(&mut self, name: usize, mode: Option<bool>) -> Reply {
-        let (asked, told) = match self.entry(name) {
+        let (request, answer) = match self.entry(name) {
             Entry::Idle => return word(ReplyWord::NotRegistered),
-            Entry::Waiting(asked, _) => (asked, None),
-            Entry::Answered(asked, reply, _) => (asked, Some(reply)),
+            Entry::Waiting(request, _) => (request, None),
+            Entry::Answered(request, reply, _) => (request, Some(reply)),
         };
-        if mode == Some(!asked.1) {
+        if mode == Some(!request.1) {
             return word(ReplyWord::WrongMode);
         }
-        let Some(reply) = told else {
+        let Some(reply) = answer else {
             return word(ReplyWord::NotReady);
         };
         self.set(name, Entry::Idle);
         reply
     }
 
-    // Drops what a name is registered for; whoever leaves a gate as a waiter tells the others so.
+    // Drops what a name is registered for; a waiter that leaves a gate answers all others.
     fn cancel(&mut self, name: usize) {
-        let is_heard = matches!(self.held, Held::Gate(_))
+        let answers_others = matches!(self.held, Held::Gate(_))
             && matches!(self.entry(name), Entry::Waiting(..));
         self.leave(name);
-        if is_heard {
+        if answers_others {
             self.answer_all(ReplyWord::Spurious);
         }
     }
@@ -325,8 +325,8 @@ impl Model {
         self.set(name, Entry::Idle);
         match entry {
             Entry::Waiting(..) => self.settle(),
-            Entry::Answered(asked, reply, _) if reply == self.grant() => {
-                self.give_back(asked.0);
+            Entry::Answered(request, reply, _) if reply == self.grant() => {
+                self.give_back(request.0);
             }
             _ => {}
         }
@@ -361,7 +361,7 @@ impl Model {
         }
     }
 
-    // The lock comes to be held so where it may, and its waiters are served then, or told of its poison.
+    // The lock comes to be held so if it may, and its waiters are served then, or answered that it is poisoned.
     fn turn(&mut self, may: bool, held: Held) -> Reply {
         if may {
             self.held = held;
@@ -392,7 +392,7 @@ impl Model {
         }
     }
 
-    // A controlled gate answers at most so many waiters; another only tells its state.
+    // A controlled gate answers at most so many waiters; another only says its state.
     fn let_through(&mut self, state: State, most: usize, reply: ReplyWord) -> Reply {
         match state {
             State::Controlled => Ok::<usize, State>(self.answer_front(most, word(reply))).reply(),

@@ -2,7 +2,7 @@
 
 ghost use Rattle.std.specs.Prelude.{◌<◌};
 
-use crate::language::{Call, Failed, Move, moves_of};
+use crate::language::{Call, Failed, Move, Subject, moves_of};
 use crate::reply::{Replies, Reply, ReplyWord, number, unknown, word};
 use saa_core::barrier::BarrierCore;
 use saa_core::gate::GateCore;
@@ -18,7 +18,7 @@ pub trait Core: Primitive + Debug + Drop {
     /// Calls that need no ticket.
     fn answer(&mut self, call: &Call<'_>) -> Reply;
 
-    /// Registers a ticket for what is asked.
+    /// Registers a ticket for what the call requests.
     fn enroll(&mut self, ticket: &mut Ticket, call: &Call<'_>) -> Result<bool, Full>;
 
     fn polled(&mut self, ticket: &mut Ticket, how: How) -> Reply;
@@ -127,10 +127,7 @@ impl Core for BarrierCore {
 #[derive(Drop)]
 pub struct Desk<C: Core> {
     core: C,
-    first: Ticket,
-    second: Ticket,
-    third: Ticket,
-    fourth: Ticket,
+    tickets: [Ticket; 4],
     caller: Ticket,
 }
 
@@ -138,27 +135,31 @@ impl<C: Core> Desk<C> {
     pub fn new(core: C) -> Self {
         Desk {
             core,
-            first: Ticket::new(),
-            second: Ticket::new(),
-            third: Ticket::new(),
-            fourth: Ticket::new(),
+            tickets: [Ticket::new(), Ticket::new(), Ticket::new(), Ticket::new()],
             caller: Ticket::new(),
         }
     }
 
     // Makes a call with the ticket that it names.
     fn with_ticket(&mut self, call: &Call<'_>) -> Reply {
-        match call.pager() {
-            0 => ticketed(&mut self.core, &mut self.first, call),
-            1 => ticketed(&mut self.core, &mut self.second, call),
-            2 => ticketed(&mut self.core, &mut self.third, call),
-            _ => ticketed(&mut self.core, &mut self.fourth, call),
+        match self.tickets.get_mut(call.pager()) {
+            Some(ticket) => ticketed(&mut self.core, ticket, call),
+            None => unknown(),
         }
+    }
+
+    // Registers as many as the crowd, by tickets that go out of scope and leave their slots held.
+    fn register_crowd(&mut self, call: &Call<'_>) -> Reply {
+        for _one in 0..call.crowd {
+            let _registered = self.core.enroll(&mut Ticket::new(), call);
+        }
+        word(ReplyWord::Done)
     }
 
     /// Makes a call.
     pub fn answer(&mut self, call: &Call<'_>) -> Reply {
         match call.verb {
+            "reg" if call.subject == Subject::Crowd => self.register_crowd(call),
             "reg"
             | "try_poll"
             | "poll_sync"
@@ -186,14 +187,14 @@ impl<C: Core> Desk<C> {
     pub fn waited(&mut self, call: &Call<'_>) -> Option<Reply> {
         match self.core.enroll(&mut self.caller, &asked_by(call)) {
             Ok(true) => {}
-            told => return Some(told.reply()),
+            refused => return Some(refused.reply()),
         }
-        let told = self.core.polled(&mut self.caller, How::Sync);
-        if told.is("not_ready") {
+        let answered = self.core.polled(&mut self.caller, How::Sync);
+        if answered.is("not_ready") {
             self.core.cancel(&mut self.caller);
             return None;
         }
-        Some(told)
+        Some(answered)
     }
 }
 
@@ -219,11 +220,11 @@ fn ticketed<C: Core>(core: &mut C, ticket: &mut Ticket, call: &Call<'_>) -> Repl
 
 /// The registration that a call makes which may block.
 pub fn asked_by(call: &Call<'_>) -> Call<'static> {
-    let mut asked = Call::asking(call.number().unwrap_or(1));
+    let mut registration = Call::asking(call.number().unwrap_or(1));
     if matches!(call.verb, "share" | "share_with") {
-        asked.mode = Mode::Shared;
+        registration.mode = Mode::Shared;
     }
-    asked
+    registration
 }
 
 // So many tries to share: how many are granted.
@@ -243,7 +244,7 @@ fn prints<C: Core>(alloc: Global, core: &C, wanted: &str) -> Result<bool, AllocE
 }
 
 // The first row that a core answers otherwise.
-fn told<'t, C: Core>(
+fn played<'t, C: Core>(
     alloc: Global,
     core: C,
     moves: &[Move<'t>],
@@ -276,9 +277,9 @@ fn at_first_line<'t>(
         ("bounded", 1) => at_permits::<1>(alloc, second, line.room(2), moves),
         ("bounded", 1_000) => at_permits::<1_000>(alloc, second, line.room(2), moves),
         ("bounded", _) => at_permits::<65_535>(alloc, second, line.room(2), moves),
-        ("lock", _) => told(alloc, LockCore::new(alloc, line.room(0))?, moves),
-        ("gate", _) => told(alloc, GateCore::new(alloc, line.room(0))?, moves),
-        _ => told(
+        ("lock", _) => played(alloc, LockCore::new(alloc, line.room(0))?, moves),
+        ("gate", _) => played(alloc, GateCore::new(alloc, line.room(0))?, moves),
+        _ => played(
             alloc,
             BarrierCore::with_count(alloc, first, line.room(1))?,
             moves,
@@ -296,7 +297,7 @@ fn at_permits<'t, const MAX: usize>(
     requires narrow { MAX < 65536 }
 {
     let core = SemaphoreCoreOf::<MAX>::with_permits(alloc, permits, room)?;
-    told(alloc, core, moves)
+    played(alloc, core, moves)
 }
 
 /// The first row of these stories that is answered otherwise at a core.

@@ -2,7 +2,7 @@
 //!
 //! A story is a paragraph: comments (`# ..`), a first line that makes the form (`semaphore N ROOM`, `bounded MAX N ROOM`, `lock ROOM`, `gate ROOM`,
 //! `barrier N ROOM`), and lines of moves. Moves are divided by `; `, and a move that must answer something else than that it was done (`true`, `ok`, or
-//! nothing) says what behind ` -> `:
+//! nothing) says what after ` -> `:
 //!
 //! ```text
 //! # No later call passes a waiter.
@@ -23,13 +23,14 @@
 //! | `f0 poll_away a` | a future is polled by the task `a` on another thread |
 //! | `a woken`, `a calm` | whether the task `a` was woken since its last poll, and a poll of it that polls nothing |
 //! | `t1 acquire 3`, `t1 ends` | a call on another thread: the next move is made once it has ended, or sleeps; and the wait for its end; a callback there only yields |
-//! | `t1 acquire looks`, `t1 acquire_for 1h joins`, `t1 poll_sync 0 begins` | the next move is made once the call looks, or has joined the queue, since it never sleeps, or at once |
+//! | `t1 acquire looks`, `t1 acquire_for 1h joins`, `t1 poll_sync 0 begins` | the next move is made once the call spins, or has joined the queue, since it never sleeps, or at once |
 //! | `crowd 48 acquire`, `crowd 48 ends`, `crowd 48 ended -> 0` | so many threads make the call, each as `t1` does, and `joins` is for calls with a callback; the wait for their ends; how many calls have ended |
 //! | `in_turn 48 release` | makes the call so often, each time waits until one more of the crowd is done, and answers how often no other one was woken |
-//! | `each 1 2 48`, `N`, `N+1` | ahead of the first line: the story is told for each of these numbers, which is `N` in it |
-//! | `semaphore 0 2 1ns sleepy` | a clock of which each reading is so much later than the last (of `0ns` it stands still), and a spin policy: waiters park at once (`sleepy`), spin at their parker (`awake`), or yield there (`yielding`), and calls look for ever before they join (`looking`, and with the last two) |
+//! | `each 1 2 48`, `N`, `N+1` | ahead of the first line: the story is played for each of these numbers, which is `N` in it |
+//! | `semaphore 0 2 1ns sleepy` | a clock of which each reading is so much later than the last (of `0ns` it stands still), and a spin policy: waiters park at once (`sleepy`), spin at their parker (`awake`), or yield there (`yielding`), and calls spin for ever before they join (`looking`, and with the last two) |
 //! | `clock 5ms`, `late`, `leap 1h`, `clock broken` | that clock is set, to a second, once it was read again, and can't be read |
 //! | `pause`, `read 100`, `rests`, `asleep 2`, `parked` | a while passes; the clock was read so often; it is hardly read; so many sleep, which is waited for; how many do |
+//! | `crowd 257 reg 0 5`, `next`, `prints -> ..` | at a core: so many tickets register and go out of scope; the slot of the next pending wake; its text |
 //! | `room`, `notified` | how many more could wait now, 7 at most; how many parkers are notified |
 
 use crate::reply::Reply;
@@ -73,7 +74,7 @@ pub struct Call<'t> {
     /// How many of the crowd make it.
     pub crowd: usize,
     pub verb: &'t str,
-    // The numbers behind it, and how many they are.
+    // The numbers after it, and how many they are.
     numbers: [usize; 3],
     count: usize,
     pub mode: Mode,
@@ -85,7 +86,7 @@ pub struct Call<'t> {
     then_number: Option<usize>,
 }
 
-/// A move as it is written, the line that it is of, what it must answer, and for which number its story is told.
+/// A move as it is written, the line that it is of, what it must answer, and for which number its story is played.
 #[derive(Clone, Copy, Debug)]
 pub struct Move<'t> {
     pub line: &'t str,
@@ -297,7 +298,7 @@ impl<'t> Call<'t> {
         self.count = self.count.saturating_add(1);
     }
 
-    // Reads one more word, in a story that is told for this number.
+    // Reads one more word, in a story that is played for this number.
     fn read(&mut self, word: &'t str, each: usize) {
         if let Some(number) = number_of(word, each) {
             self.read_number(number);
@@ -310,7 +311,7 @@ impl<'t> Call<'t> {
         }
     }
 
-    // One behind the crowd and ahead of the verb is how many they are.
+    // One after the crowd and ahead of the verb is how many they are.
     fn read_number(&mut self, number: usize) {
         if self.verb.is_empty() {
             self.crowd = number;
@@ -321,7 +322,7 @@ impl<'t> Call<'t> {
         }
     }
 
-    // The first is who makes the move; a task behind the verb polls.
+    // The first is who makes the move; a task after the verb polls.
     fn read_subject(&mut self, subject: Subject) {
         match subject {
             Subject::Task(task) if !self.verb.is_empty() => self.task = task,
@@ -379,7 +380,7 @@ pub fn moves_of(alloc: Global, story: &str) -> Result<Vec<Move<'_>>, AllocError>
     moves_for(alloc, story, 0)
 }
 
-/// The same of a story that is told for this number.
+/// The same of a story that is played for this number.
 pub fn moves_for(alloc: Global, story: &str, each: usize) -> Result<Vec<Move<'_>>, AllocError> {
     let mut moves = Vec::new(alloc);
     for line in story.lines() {
@@ -390,10 +391,10 @@ pub fn moves_for(alloc: Global, story: &str, each: usize) -> Result<Vec<Move<'_>
     Ok(moves)
 }
 
-// How the line begins that says for which numbers a story is told.
+// How the line begins that says for which numbers a story is played.
 const EACH: &str = "each ";
 
-/// The numbers for which a story is told: 0 alone where no line says them.
+/// The numbers for which a story is played: 0 alone if no line says them.
 pub fn numbers_of(alloc: Global, story: &str) -> Result<Vec<usize>, AllocError> {
     let mut numbers = Vec::new(alloc);
     for line in story.lines() {

@@ -1,6 +1,6 @@
 //! The language of stories, what a move answers in its words, and the player of stories at a core.
 //!
-//! `test_core` tells stories of the cores, `test_stories` of the forms.
+//! `test_core` plays stories at the cores, `test_stories` at the forms.
 #![tactic(auto)]
 
 pub mod cores;

@@ -50,7 +50,7 @@ pub enum ReplyWord {
 }
 
 impl ReplyWord {
-    // As it stands in a row.
+    // As it is in a row.
     fn text(self) -> &'static str {
         match self {
             ReplyWord::Done => "",
@@ -107,7 +107,7 @@ pub fn number(number: usize) -> Reply {
     }
 }
 
-/// A word, and a number behind it.
+/// A word, and a number after it.
 fn counted(word: ReplyWord, number: usize) -> Reply {
     Reply {
         word,
@@ -230,12 +230,7 @@ impl Replies for State {
 // A gate's state before, and how many waiters it answered.
 impl Replies for (State, usize) {
     fn reply(self) -> Reply {
-        let word = match self.0 {
-            State::Controlled => ReplyWord::Controlled,
-            State::Sealed => ReplyWord::Sealed,
-            State::Open => ReplyWord::Open,
-        };
-        counted(word, self.1)
+        counted(self.0.reply().word, self.1)
     }
 }
 

@@ -1,4 +1,4 @@
-//! Worked rows, which are told of the cores and of each form.
+//! Worked rows, which are played at the cores and at each form.
 
 /// Of semaphores.
 pub const SEMAPHORES: &str = "\

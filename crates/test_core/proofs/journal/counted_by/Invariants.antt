@@ -1,7 +1,7 @@
 use Rattle.std.proofs.Common.{replicate}
 use Rattle.saa_core.specs.declared.ticket.Registration.TheVariants.{Unregistered}
 use Rattle.saa_core.specs.Tickets.{object_of}
-use Rattle.test_core.proofs.journal.rows.counted_by.Given as goal
+use Rattle.test_core.proofs.journal.counted_by.Given as goal
 
 -- the journal opens with the core that is handed over, and has a share for each part of the blank
 abbrev pub ghosts-three_commands-J-Journal : goal.ghosts-three_commands-J-Journal
