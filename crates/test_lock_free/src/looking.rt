@@ -46,16 +46,16 @@ fn give<R: Wait + Drop>(rt: &impl Wait, semaphore: &Semaphore<R>) -> bool {
 }
 
 // How often the callback ran, whether the permit was given back, and how many are available in the end.
-fn told<H: Wait + Threads + Sync + AllocGlobal>(
+fn granted_while_it_looks<H: Wait + Threads + Sync + AllocGlobal>(
     rt: &H,
 ) -> Result<((u64, bool), usize), AllocError> {
     let semaphore = Semaphore::with_spin_policy(rt, rt.alloc(), 0, 1, ENDLESS)?;
-    let told = thread::join(rt, || take(rt, &semaphore), || give(rt, &semaphore));
-    Ok((told, semaphore.available_permits(SeqCst)))
+    let both = thread::join(rt, || take(rt, &semaphore), || give(rt, &semaphore));
+    Ok((both, semaphore.available_permits(SeqCst)))
 }
 
 #[test]
 fn no_callback_runs_where_a_call_is_granted_while_it_looks(rt: HostRuntime) -> Result<(), Fail> {
-    same!(rt; told(&rt)?, ((0, true), 0));
+    same!(rt; granted_while_it_looks(&rt)?, ((0, true), 0));
     Ok(())
 }
