@@ -86,28 +86,16 @@ pub fn put_to_read<L: RawLock + Drop>(rwlock: &RwLock<L, u64>, number: u64) -> R
 
 #[cfg(test)]
 mod tests {
-    use saa_core_guards::guarded::Guarded;
-    use saa_core_guards::mutex::Mutex;
-    use saa_core_guards::raw_lock::RawLock;
-    use saa_sync::lock::Lock;
-    use std::alloc::{AllocError, AllocGlobal};
-    use std::sync::Wait;
+    use saa_sync::Mutex;
+    use std::test::Fail;
     use test_asserts::same;
 
-    // The value behind a lock of either kind, and the value once another number is written there with no guard.
-    fn renewed<L: RawLock + Drop, K>(mut guarded: Guarded<L, u64, K>) -> [u64; 2] {
-        let first = *guarded.get_mut();
-        *guarded.get_mut() = 6;
-        [first, guarded.into_inner()]
-    }
-
-    fn renewed_mutex<H: Wait + AllocGlobal>(rt: &H) -> Result<[u64; 2], AllocError> {
-        let mutex: Mutex<Lock<&H>, u64> = Mutex::new(rt, rt.alloc(), 5, 0)?;
-        Ok(renewed(mutex))
-    }
-
     #[test]
-    fn a_number_of_its_own(rt: HostRuntime) {
-        same!(rt; renewed_mutex(&rt), Ok([5, 6]));
+    fn a_number_of_its_own(rt: HostRuntime) -> Result<(), Fail> {
+        let mut mutex = Mutex::new(&rt, rt.alloc(), 5, 0)?;
+        same!(rt; *mutex.get_mut(), 5);
+        *mutex.get_mut() = 6;
+        same!(rt; mutex.into_inner(), 6);
+        Ok(())
     }
 }

@@ -17,14 +17,19 @@ pub(crate) struct Place<'s, L: RawLockAsync + RawLockUntil + Drop> {
     task: MockTask,
     pending: Option<Pending<'s, L>>,
     held: Option<Held<'s, L>>,
+    keeps_guards: bool,
 }
 
 impl<'s, L: RawLockAsync + RawLockUntil + Drop> Place<'s, L> {
-    pub(crate) fn new<H: RandomSource + AllocGlobal>(rt: &H) -> io::Result<Self> {
+    pub(crate) fn new<H: RandomSource + AllocGlobal>(
+        rt: &H,
+        keeps_guards: bool,
+    ) -> io::Result<Self> {
         Ok(Place {
             task: MockTask::new(rt)?,
             pending: None,
             held: None,
+            keeps_guards,
         })
     }
 
@@ -52,12 +57,14 @@ impl<'s, L: RawLockAsync + RawLockUntil + Drop> Place<'s, L> {
         }
     }
 
-    // Keeps the guard that was given.
+    // Keeps the guard that was given, or drops it at once.
     fn keep(&mut self, given: Result<Held<'s, L>, NoGuard>) -> Reply {
         match given {
             Ok(held) => {
                 let shown = held.shown();
-                self.held = Some(held);
+                if self.keeps_guards {
+                    self.held = Some(held);
+                }
                 number(shown)
             }
             Err(none) => none.reply(),
@@ -92,11 +99,6 @@ impl<'s, L: RawLockAsync + RawLockUntil + Drop> Place<'s, L> {
         };
         self.held = Some(held);
         answer
-    }
-
-    // Its guard goes.
-    pub(crate) fn let_go(&mut self) {
-        self.held = None;
     }
 }
 

@@ -2,7 +2,7 @@
 
 use crate::locks::Locks;
 use crate::places::Place;
-use crate::stage::{OWN, Stage, is_of_stage, maker_of};
+use crate::stage::{OWN, Stage};
 use crate::stories;
 use saa_core_guards::raw_lock::{RawLockAsync, RawLockUntil};
 use saa_sync::lock::Lock;
@@ -20,80 +20,6 @@ use test_language::reply::unknown;
 
 // How many places there are beside the crowd: the story's own, and those of three tasks.
 const FEW: usize = 4;
-
-// The part of one thread in a story.
-#[derive(Drop)]
-struct Player<'s, H, L: RawLockAsync + RawLockUntil + Drop> {
-    rt: &'s H,
-    locks: &'s Locks<L>,
-    stage: &'s Stage,
-    thread: usize,
-    places: Vec<Place<'s, L>>,
-}
-
-impl<'s, H, L> Player<'s, H, L>
-where
-    H: Wait + Clock + RandomSource + AllocGlobal,
-    L: RawLockAsync + RawLockUntil + Drop,
-{
-    fn new(
-        rt: &'s H,
-        locks: &'s Locks<L>,
-        stage: &'s Stage,
-        thread: usize,
-        moves: &[Move<'_>],
-    ) -> io::Result<Self> {
-        let crowd = if thread == OWN { crowd_of(moves) } else { 0 };
-        let mut places = Vec::new(rt.alloc());
-        for _place in 0..FEW.saturating_add(crowd) {
-            places.push(Place::new(rt)?)?;
-        }
-        Ok(Player {
-            rt,
-            locks,
-            stage,
-            thread,
-            places,
-        })
-    }
-
-    // Comes to a row: this one if it is answered otherwise. Another thread passes over rows that aren't its own, and its guard goes at once.
-    fn failed_at<'t>(&mut self, at: usize, row: &Move<'t>) -> Option<Failed<'t>> {
-        let maker = maker_of(&row.call);
-        if self.thread == OWN {
-            if maker == OWN {
-                return self.failed(row);
-            }
-            let answer = self.stage.turn_of(self.rt, maker, at, &row.call)?;
-            return Failed::unless(row, answer);
-        }
-        if maker != self.thread || is_of_stage(&row.call) {
-            return None;
-        }
-        self.stage.begin(self.rt, maker, at);
-        let failed = self.failed(row);
-        if let Some(place) = self.places.get_mut(0) {
-            place.let_go();
-        }
-        failed
-    }
-
-    // Makes the move of a row, at one place or at each of a crowd.
-    fn failed<'t>(&mut self, row: &Move<'t>) -> Option<Failed<'t>> {
-        let (from, to) = places_of(&row.call);
-        for place in from..to {
-            let answer = match self.places.get_mut(place) {
-                Some(place) => place.answer(self.rt, self.locks, &row.call),
-                None => unknown(),
-            };
-            let failed = Failed::unless(row, answer);
-            if failed.is_some() {
-                return failed;
-            }
-        }
-        None
-    }
-}
 
 // The places at which a move is made, from one up to another.
 fn places_of(call: &Call<'_>) -> (usize, usize) {
@@ -114,11 +40,47 @@ fn crowd_of(moves: &[Move<'_>]) -> usize {
     crowd
 }
 
-// Plays one thread's part.
+// The places of a thread; the crowd are of the story's own. The guard of another thread goes at once.
+fn places_for<'s, H: RandomSource + AllocGlobal, L: RawLockAsync + RawLockUntil + Drop>(
+    rt: &H,
+    thread: usize,
+    moves: &[Move<'_>],
+) -> io::Result<Vec<Place<'s, L>>> {
+    let is_own = thread == OWN;
+    let crowd = if is_own { crowd_of(moves) } else { 0 };
+    let mut places = Vec::new(rt.alloc());
+    for _place in 0..FEW.saturating_add(crowd) {
+        places.push(Place::new(rt, is_own)?)?;
+    }
+    Ok(places)
+}
+
+// Makes the move of a row, at one place or at each of a crowd: this row if it is answered otherwise.
+fn failed<'t, 's, L: RawLockAsync + RawLockUntil + Drop>(
+    clock: &impl Clock,
+    locks: &'s Locks<L>,
+    places: &mut Vec<Place<'s, L>>,
+    row: &Move<'t>,
+) -> Option<Failed<'t>> {
+    let (from, to) = places_of(&row.call);
+    for place in from..to {
+        let answer = match places.get_mut(place) {
+            Some(place) => place.answer(clock, locks, &row.call),
+            None => unknown(),
+        };
+        let failed = Failed::unless(row, answer);
+        if failed.is_some() {
+            return failed;
+        }
+    }
+    None
+}
+
+// Plays one thread's part; it passes over rows that aren't its own.
 fn played<'t, 's, H, L>(
     rt: &'s H,
     locks: &'s Locks<L>,
-    stage: &'s Stage,
+    stage: &Stage,
     moves: &[Move<'t>],
     thread: usize,
 ) -> io::Result<Option<Failed<'t>>>
@@ -126,9 +88,16 @@ where
     H: Wait + Clock + RandomSource + AllocGlobal,
     L: RawLockAsync + RawLockUntil + Drop,
 {
-    let mut player = Player::new(rt, locks, stage, thread, moves)?;
+    let mut places = places_for(rt, thread, moves)?;
     for (at, row) in moves.iter().enumerate() {
-        let failed = player.failed_at(at, row);
+        let failed = if stage.makes(rt, thread, at, &row.call) {
+            failed(rt, locks, &mut places, row)
+        } else {
+            match stage.answer(rt, thread, at, &row.call) {
+                Some(answer) => Failed::unless(row, answer),
+                None => None,
+            }
+        };
         if failed.is_some() {
             stage.fail();
         }
@@ -162,10 +131,11 @@ where
 
 // A story at the locks that its first line makes. (The threads are begun at each kind by itself: the borrow checker covers none that a function begins
 // for any lock.)
-fn at_threaded<'t, H>(rt: &H, line: &Call<'_>, moves: &[Move<'t>]) -> io::Result<Option<Failed<'t>>>
-where
-    H: Wait + Clock + Threads + Sync + RandomSource + AllocGlobal,
-{
+fn at_threaded<'t, H: Wait + Clock + Threads + Sync + RandomSource + AllocGlobal>(
+    rt: &H,
+    line: &Call<'_>,
+    moves: &[Move<'t>],
+) -> io::Result<Option<Failed<'t>>> {
     let locks: Locks<Lock<&H>> = Locks::new(rt, line.number().unwrap_or(0), line.room(1))?;
     if line.verb == "poisoned" {
         locks.poison();
@@ -174,14 +144,11 @@ where
     in_threads(rt, &|thread| played(rt, &locks, &stage, moves, thread))
 }
 
-fn at_lock_free<'t, H>(
+fn at_lock_free<'t, H: Wait + Clock + Threads + Sync + RandomSource + AllocGlobal>(
     rt: &H,
     line: &Call<'_>,
     moves: &[Move<'t>],
-) -> io::Result<Option<Failed<'t>>>
-where
-    H: Wait + Clock + Threads + Sync + RandomSource + AllocGlobal,
-{
+) -> io::Result<Option<Failed<'t>>> {
     let locks: Locks<LockFree<&H>> = Locks::new(rt, line.number().unwrap_or(0), line.room(1))?;
     if line.verb == "poisoned" {
         locks.poison();
@@ -191,15 +158,12 @@ where
 }
 
 // The first row of a story that is answered otherwise at the threaded locks, or at the lock-free ones, where it is told for this number.
-fn first_row<'t, H>(
+fn first_row<'t, H: Wait + Clock + Threads + Sync + RandomSource + AllocGlobal>(
     rt: &H,
     is_threaded: bool,
     story: &'t str,
     each: usize,
-) -> io::Result<Option<Failed<'t>>>
-where
-    H: Wait + Clock + Threads + Sync + RandomSource + AllocGlobal,
-{
+) -> io::Result<Option<Failed<'t>>> {
     let moves = moves_for(rt.alloc(), story, each)?;
     match moves.split_first() {
         Some((first, rows)) if is_threaded => at_threaded(rt, &first.call, rows),
@@ -209,14 +173,11 @@ where
 }
 
 // The first row of these stories that is answered otherwise.
-fn first_failed<'t, H>(
+fn first_failed<'t, H: Wait + Clock + Threads + Sync + RandomSource + AllocGlobal>(
     rt: &H,
     is_threaded: bool,
     stories: &'t str,
-) -> io::Result<Option<Failed<'t>>>
-where
-    H: Wait + Clock + Threads + Sync + RandomSource + AllocGlobal,
-{
+) -> io::Result<Option<Failed<'t>>> {
     for story in stories.split("\n\n") {
         for each in numbers_of(rt.alloc(), story)? {
             let failed = first_row(rt, is_threaded, story, each)?;
@@ -254,9 +215,7 @@ fn guards_keep_other_threads_out(rt: HostRuntime) -> Result<(), Fail> {
 
 #[test]
 fn a_wrong_row_is_found(rt: HostRuntime) -> Result<(), Fail> {
-    match first_failed(&rt, true, stories::WRONG)? {
-        Some(failed) => same!(rt; failed.row, "t2 try_lock"),
-        None => same!(rt; "no row", "t2 try_lock"),
-    }
+    let failed = first_failed(&rt, true, stories::WRONG)?;
+    same!(rt; failed.map(|failed| failed.row), Some("t2 try_lock"));
     Ok(())
 }

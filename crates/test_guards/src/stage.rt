@@ -1,4 +1,4 @@
-//! How far a story is: its own thread gives the two others their turns, and knows which of them have begun a move, and which have ended it.
+//! How far the threads of a story are: its own gives the two others their turns.
 
 use std::sync::Wait;
 use std::sync::atomic::{AtomicBool, AtomicUsize, Ordering};
@@ -12,49 +12,30 @@ pub(crate) const OWN: usize = 2;
 // How often the story's thread gives way to a call that has to wait.
 const LOOKS: u32 = 500;
 
-// How many moves another thread has begun, and how many it is done with.
-#[derive(Drop)]
-struct Progress {
-    begun: AtomicUsize,
-    ended: AtomicUsize,
-}
-
-impl Progress {
-    fn new() -> Self {
-        Progress {
-            begun: AtomicUsize::new(0),
-            ended: AtomicUsize::new(0),
-        }
-    }
-}
-
-// How far all threads are.
+// Each row has two steps: it is begun, and it is done with. Another thread begins none that the story's thread didn't come to.
 #[derive(Drop)]
 pub(crate) struct Stage {
-    // How many moves may be begun.
-    turns: AtomicUsize,
-    first: Progress,
-    second: Progress,
-    own: Progress,
+    steps: [AtomicUsize; 3],
     has_failed: AtomicBool,
+}
+
+fn begun(at: usize) -> usize {
+    at.saturating_mul(2).saturating_add(1)
+}
+
+fn done(at: usize) -> usize {
+    at.saturating_mul(2).saturating_add(2)
 }
 
 impl Stage {
     pub(crate) fn new() -> Self {
         Stage {
-            turns: AtomicUsize::new(0),
-            first: Progress::new(),
-            second: Progress::new(),
-            own: Progress::new(),
+            steps: [
+                AtomicUsize::new(0),
+                AtomicUsize::new(0),
+                AtomicUsize::new(0),
+            ],
             has_failed: AtomicBool::new(false),
-        }
-    }
-
-    fn progress(&self, thread: usize) -> &Progress {
-        match thread {
-            0 => &self.first,
-            1 => &self.second,
-            _ => &self.own,
         }
     }
 
@@ -67,68 +48,81 @@ impl Stage {
         self.has_failed.store(true, Ordering::SeqCst);
     }
 
-    // Another thread waits for the turn of its move, and begins it.
-    pub(crate) fn begin(&self, rt: &impl Wait, thread: usize, at: usize) {
-        self.await_more(rt, &self.turns, at);
-        let begun = at.saturating_add(1);
-        self.progress(thread).begun.store(begun, Ordering::SeqCst);
-    }
-
     // A thread is done with a row.
     pub(crate) fn end(&self, thread: usize, at: usize) {
-        let ended = at.saturating_add(1);
-        self.progress(thread).ended.store(ended, Ordering::SeqCst);
+        self.reach(thread, done(at));
     }
 
-    // The story's thread comes to a row of another thread: it answers whether that is still in its call, waits for its end, or lets it begin one.
-    pub(crate) fn turn_of(
+    // Whether a thread makes the move of a row. Another one than the story's waits for its turn.
+    pub(crate) fn makes(&self, rt: &impl Wait, thread: usize, at: usize, call: &Call<'_>) -> bool {
+        if maker_of(call) != thread || matches!(call.verb, "waits" | "ends") {
+            return false;
+        }
+        if thread != OWN {
+            self.await_step(rt, OWN, begun(at));
+            self.reach(thread, begun(at));
+        }
+        true
+    }
+
+    // The story's thread comes to a row of another one: it answers whether that is still in its call, waits for its end, or lets it begin one.
+    pub(crate) fn answer(
         &self,
         rt: &impl Wait,
         thread: usize,
         at: usize,
         call: &Call<'_>,
     ) -> Option<Reply> {
-        let progress = self.progress(thread);
-        self.turns.store(at.saturating_add(1), Ordering::SeqCst);
+        if thread != OWN {
+            return None;
+        }
+        self.reach(OWN, begun(at));
         match call.verb {
-            "waits" => return Some(is_behind(&progress.ended, at).reply()),
-            "ends" => self.await_more(rt, &progress.ended, at),
-            _ => self.await_more(rt, &progress.begun, at),
+            "waits" => return Some(self.is_behind(maker_of(call), done(at)).reply()),
+            "ends" => self.await_step(rt, maker_of(call), done(at)),
+            _ => self.await_step(rt, maker_of(call), begun(at)),
         }
         None
     }
 
-    // Waits until more than so many are made.
-    fn await_more(&self, rt: &impl Wait, made: &AtomicUsize, at: usize) {
+    fn reach(&self, thread: usize, step: usize) {
+        if let Some(reached) = self.steps.get(thread) {
+            reached.store(step, Ordering::SeqCst);
+        }
+    }
+
+    fn has_reached(&self, thread: usize, step: usize) -> bool {
+        match self.steps.get(thread) {
+            Some(reached) => reached.load(Ordering::SeqCst) >= step,
+            None => true,
+        }
+    }
+
+    fn await_step(&self, rt: &impl Wait, thread: usize, step: usize) {
         for _ in rt.forever() {
-            if made.load(Ordering::SeqCst) > at || self.has_failed() {
+            if self.has_reached(thread, step) || self.has_failed() {
                 return;
             }
             yield_now();
         }
     }
-}
 
-// Gives way many times; whether not more than so many are ended even then.
-fn is_behind(ended: &AtomicUsize, at: usize) -> bool {
-    for _look in 0..LOOKS {
-        if ended.load(Ordering::SeqCst) > at {
-            return false;
+    // Gives way many times; whether a thread isn't so far even then.
+    fn is_behind(&self, thread: usize, step: usize) -> bool {
+        for _look in 0..LOOKS {
+            if self.has_reached(thread, step) {
+                return false;
+            }
+            yield_now();
         }
-        yield_now();
+        true
     }
-    true
 }
 
 // Which thread makes a move.
-pub(crate) fn maker_of(call: &Call<'_>) -> usize {
+fn maker_of(call: &Call<'_>) -> usize {
     match call.subject {
         Subject::Thread(thread) => thread,
         _ => OWN,
     }
-}
-
-// Whether a row is the story's own though it speaks of another thread.
-pub(crate) fn is_of_stage(call: &Call<'_>) -> bool {
-    matches!(call.verb, "ends" | "waits")
 }

@@ -1,4 +1,4 @@
-//! Forms that are closed with a receipt: the words are those of what was out, and no place has an answer. They are made in each way.
+//! Forms that are closed with a receipt: the words are those of what was out, and no place has an answer.
 
 ghost use Rattle.std.specs.Prelude.{IfSome};
 ghost use Rattle.saa_word_threads.specs.Locks.{table_of};
@@ -8,7 +8,7 @@ use saa_core_waits::spin_policy::NONE;
 use saa_word_lock_free::laws::turns;
 use saa_word_lock_free::lock::Lock;
 use saa_word_lock_free::lock_api::{Guard, Mutex, RwLock, close, join_receipt};
-use saa_word_lock_free::semaphore::{Semaphore, SemaphoreOf};
+use saa_word_lock_free::semaphore::SemaphoreOf;
 use saa_word_lock_free::{Receipt, Words};
 use std::alloc::{AllocError, AllocGlobal};
 use std::sync::Wait;
@@ -34,14 +34,6 @@ fn semaphore_closed<H: Wait + Clock + AllocGlobal>(
     let (available, receipt) = semaphore.available_permits_witnessed();
     let words = semaphore.close(receipt);
     Ok((is_taken && answer == Ok(None), available, shown(&words)))
-}
-
-// With no places, by the receipt of a grant.
-fn placeless_closed<H: Wait + AllocGlobal>(rt: &H) -> Result<(bool, Shown), AllocError> {
-    let semaphore = Semaphore::new(rt, rt.alloc(), 0)?;
-    let (is_granted, receipt) = semaphore.try_acquire_many_witnessed(1);
-    let words = semaphore.close(receipt);
-    Ok((is_granted, shown(&words)))
 }
 
 // A share is out; a call had waited.
@@ -102,7 +94,6 @@ const NO_ANSWERS: [Option<u64>; 3] = [Some(0), Some(0), None];
 #[test]
 fn closes_with_a_receipt(rt: HostRuntime) -> Result<(), Fail> {
     same!(rt; semaphore_closed(&rt)?, (true, 2, (7, NO_ANSWERS)));
-    same!(rt; placeless_closed(&rt)?, (true, (1, [None; 3])));
     same!(rt; lock_closed(&rt)?, (true, (1, NO_ANSWERS)));
     same!(rt; mutex_closed(&rt)?, Some((12, (0, NO_ANSWERS))));
     same!(rt; rw_lock_closed(&rt)?, Some((3, 3, 0)));

@@ -6,7 +6,6 @@
 ghost use Rattle.std.specs.Prelude.{◌≡◌, IfSome};
 ghost use Rattle.saa_core_guards.specs.declared.permit.InTime.TheVariants.{Granted};
 
-use futures::executor::block_on;
 use futures::task::Poll;
 use futures::test::MockTask;
 use saa_core_guards::permit::{Holder, InTime, PermitFrom};
@@ -15,13 +14,11 @@ use saa_core_guards::raw_semaphore::{RawSemaphore, RawSemaphoreAsync};
 use saa_core_waits::AcquireError;
 use saa_sync::semaphore::SemaphoreOf as Threaded;
 use saa_word_lock_free::semaphore::SemaphoreOf as LockFree;
-use std::alloc::AllocGlobal;
-use std::random::RandomSource;
 use std::sync::atomic::Ordering::SeqCst;
 use std::sync::{Arc, Wait};
 use std::test::Fail;
+use std::thread;
 use std::time::{Clock, Duration, Instant};
-use std::{io, thread};
 use test_asserts::same;
 
 // How many permits there are.
@@ -33,12 +30,14 @@ enum Way {
     Try,
     Wait,
     For,
-    Until,
+    Until(Instant),
 }
+
+// What a future of permits answers, and then how many are left; nothing if it waits on.
+type Polled = Option<Result<Option<usize>, AcquireError>>;
 
 // A semaphore, by what is looked at; its trait can't name its permits, since the checker has no kind for a type that names `Self` there.
 trait Lends {
-    // How many permits are available.
     fn left(&self) -> usize;
 
     // Gives one back that is out.
@@ -47,27 +46,20 @@ trait Lends {
     fn end(&self) -> bool;
 
     // How many are left at each step as so many permits by this call are parted; nothing if they aren't granted.
-    fn parted(&self, way: Way, count: usize, end: Instant) -> Option<[usize; 5]>;
+    fn parted(&self, way: Way, count: usize) -> Option<[usize; 5]>;
 
-    // How many are left beside so many permits of a future, if there are so many.
-    fn left_beside_polled<H: Wait + AllocGlobal + RandomSource>(
-        &self,
-        rt: &H,
-        count: usize,
-    ) -> io::Result<Option<usize>>;
-
-    // Whether a future of so many waits, and is told of a shut.
-    fn is_told(&self, task: &MockTask, count: usize) -> bool;
+    // What a future of so many answers, if need be as the semaphore is shut.
+    fn polled(&self, task: &MockTask, count: usize) -> Polled;
 }
 
 // Permits by a call for many, at either form.
 macro_rules! permits {
-    ($form:expr, $way:expr, $count:expr, $end:expr) => {
+    ($form:expr, $way:expr, $count:expr) => {
         match $way {
             Way::Try => $form.try_acquire_permits($count),
             Way::Wait => $form.acquire_permits($count).ok()?,
             Way::For => granted($form.acquire_permits_for($count, Duration::MAX).ok()?),
-            Way::Until => granted($form.acquire_permits_until($count, $end).ok()?),
+            Way::Until(end) => granted($form.acquire_permits_until($count, end).ok()?),
         }
     };
 }
@@ -85,20 +77,12 @@ impl<R: Wait + Clock + Drop> Lends for Threaded<R, MAX> {
         self.shut()
     }
 
-    fn parted(&self, way: Way, count: usize, end: Instant) -> Option<[usize; 5]> {
-        parted(self, permits!(self, way, count, end)?)
+    fn parted(&self, way: Way, count: usize) -> Option<[usize; 5]> {
+        parted(self, permits!(self, way, count)?)
     }
 
-    fn left_beside_polled<H: Wait + AllocGlobal + RandomSource>(
-        &self,
-        rt: &H,
-        count: usize,
-    ) -> io::Result<Option<usize>> {
-        left_beside(rt, self, self.acquire_permits_async(count))
-    }
-
-    fn is_told(&self, task: &MockTask, count: usize) -> bool {
-        is_told(task, self, self.acquire_permits_async(count))
+    fn polled(&self, task: &MockTask, count: usize) -> Polled {
+        polled(self, task, self.acquire_permits_async(count))
     }
 }
 
@@ -115,20 +99,12 @@ impl<R: Wait + Clock + Drop> Lends for LockFree<R, MAX> {
         self.shut()
     }
 
-    fn parted(&self, way: Way, count: usize, end: Instant) -> Option<[usize; 5]> {
-        parted(self, permits!(self, way, count, end)?)
+    fn parted(&self, way: Way, count: usize) -> Option<[usize; 5]> {
+        parted(self, permits!(self, way, count)?)
     }
 
-    fn left_beside_polled<H: Wait + AllocGlobal + RandomSource>(
-        &self,
-        rt: &H,
-        count: usize,
-    ) -> io::Result<Option<usize>> {
-        left_beside(rt, self, self.acquire_permits_async(count))
-    }
-
-    fn is_told(&self, task: &MockTask, count: usize) -> bool {
-        is_told(task, self, self.acquire_permits_async(count))
+    fn polled(&self, task: &MockTask, count: usize) -> Polled {
+        polled(self, task, self.acquire_permits_async(count))
     }
 }
 
@@ -164,68 +140,58 @@ fn parted<S: Lends, H: Holder>(semaphore: &S, permits: PermitFrom<H>) -> Option<
     ])
 }
 
-fn left_beside<H, S>(
-    rt: &H,
-    semaphore: &S,
-    future: PermitsFuture<'_, S>,
-) -> io::Result<Option<usize>>
+// Polls a future; one that waits is polled again if a shut wakes its task.
+fn polled<S>(semaphore: &S, task: &MockTask, mut future: PermitsFuture<'_, S>) -> Polled
 where
-    H: Wait + AllocGlobal + RandomSource,
     S: Lends + RawSemaphore<Error = AcquireError> + RawSemaphoreAsync,
 {
-    match block_on(rt, future)?? {
-        Some(_permits) => Ok(Some(semaphore.left())),
-        None => Ok(None),
+    let mut answer = task.poll(&mut future);
+    let is_pending = matches!(answer, Poll::Pending);
+    if is_pending && !task.is_woken() && semaphore.end() && task.is_woken() {
+        answer = task.poll(&mut future);
     }
-}
-
-fn is_told<S>(task: &MockTask, semaphore: &S, mut future: PermitsFuture<'_, S>) -> bool
-where
-    S: Lends + RawSemaphore<Error = AcquireError> + RawSemaphoreAsync,
-{
-    let is_pending = matches!(task.poll(&mut future), Poll::Pending);
-    let is_woken_by_it = !task.is_woken() && semaphore.end() && task.is_woken();
-    let answer = task.poll(&mut future);
-    is_pending && is_woken_by_it && matches!(answer, Poll::Ready(Err(AcquireError::Closed)))
+    match answer {
+        Poll::Ready(Ok(Some(_permits))) => Some(Ok(Some(semaphore.left()))),
+        Poll::Ready(Ok(None)) => Some(Ok(None)),
+        Poll::Ready(Err(error)) => Some(Err(error)),
+        Poll::Pending => None,
+    }
 }
 
 // What is answered otherwise at a semaphore of five permits, all in.
-fn first_wrong<H: Wait + AllocGlobal + RandomSource, S: Lends>(
-    rt: &H,
-    semaphore: &S,
-    end: Instant,
-) -> io::Result<Option<&'static str>> {
-    for way in [Way::Try, Way::Wait, Way::For, Way::Until] {
-        if semaphore.parted(way, 4, end) != Some([1, 2, 2, 2, 4]) {
-            return Ok(Some("parts are put together again"));
+fn first_wrong<S: Lends>(task: &MockTask, semaphore: &S, end: Instant) -> Option<&'static str> {
+    for way in [Way::Try, Way::Wait, Way::For, Way::Until(end)] {
+        if semaphore.parted(way, 4) != Some([1, 2, 2, 2, 4]) {
+            return Some("parts are put together again");
         }
-        if semaphore.parted(Way::Try, 5, end).is_some() || !semaphore.returned() {
-            return Ok(Some("what is forgotten stays out"));
+        if semaphore.parted(Way::Try, 5).is_some() || !semaphore.returned() {
+            return Some("what is forgotten stays out");
         }
-        if semaphore.parted(way, 6, end).is_some() {
-            return Ok(Some("more than there are"));
+        if semaphore.parted(way, 6).is_some() {
+            return Some("more than there are");
         }
     }
-    if semaphore.left_beside_polled(rt, 2)? != Some(3) || semaphore.left() != 5 {
-        return Ok(Some("a task has permits"));
+    if semaphore.polled(task, 2) != Some(Ok(Some(3))) || semaphore.left() != 5 {
+        return Some("a task has permits");
     }
-    if semaphore.left_beside_polled(rt, 6)?.is_some() {
-        return Ok(Some("a task asks for more than there are"));
+    if semaphore.polled(task, 6) != Some(Ok(None)) {
+        return Some("a task asks for more than there are");
     }
-    let _one_stays_out = semaphore.parted(Way::Try, 4, end);
-    if !semaphore.is_told(&MockTask::new(rt)?, 5) {
-        return Ok(Some("a future is told of a shut"));
+    let _one_stays_out = semaphore.parted(Way::Try, 4);
+    if semaphore.polled(task, 5) != Some(Err(AcquireError::Closed)) {
+        return Some("a task is told of a shut");
     }
-    Ok(None)
+    None
 }
 
 #[test]
 fn permits_are_values(rt: HostRuntime) -> Result<(), Fail> {
     let end = Instant::now(&rt)?;
+    let task = MockTask::new(&rt)?;
     let lock_free = LockFree::<_, MAX>::new(&rt, rt.alloc(), 1)?;
-    same!(rt; first_wrong(&rt, &lock_free, end)?, None);
+    same!(rt; first_wrong(&task, &lock_free, end), None);
     let threaded = Threaded::<_, MAX>::new(&rt, rt.alloc(), 1)?;
-    same!(rt; first_wrong(&rt, &threaded, end)?, None);
+    same!(rt; first_wrong(&task, &threaded, end), None);
     Ok(())
 }
 
