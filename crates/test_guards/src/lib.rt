@@ -12,6 +12,4 @@ mod places;
 #[cfg(test)]
 mod player;
 #[cfg(test)]
-mod stage;
-#[cfg(test)]
 mod stories;

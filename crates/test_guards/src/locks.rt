@@ -192,14 +192,12 @@ impl<'s, L: RawLockAsync + RawLockUntil + Drop> Held<'s, L> {
         }
     }
 
-    // Gives a mutex's guard up by the call for that, which is one for all guards; whether it is one.
-    pub(crate) fn unlock_fair(self) -> bool {
+    // Gives the guard up by the call for that.
+    pub(crate) fn unlock_fair(self) {
         match self {
-            Held::Mutex(guard) => {
-                Guard::unlock_fair(guard);
-                true
-            }
-            _ => false,
+            Held::Mutex(guard) => Guard::unlock_fair(guard),
+            Held::Reader(guard) => Guard::unlock_fair(guard),
+            Held::Writer(guard) => Guard::unlock_fair(guard),
         }
     }
 }

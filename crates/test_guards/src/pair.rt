@@ -1,14 +1,13 @@
-//! A type whose invariant matters: two numbers that agree, behind each of the two locks.
+//! A type whose invariant matters, behind a mutex: two numbers that agree (`guide_mutex` has one behind a reader-writer lock).
 //!
-//! A writer has to leave the numbers equal, and a reader may use that they are. Beside them a plain number, which
-//! shows that what is written through a guard is what it shows at its next use.
+//! An owner has to leave the numbers equal, and may use that they are. Beside them a plain number, which shows that what is written through a guard is
+//! what it shows at its next use.
 
 ghost use Rattle.std.specs.Prelude.{◌≡◌, IfOk};
 
 use saa_core::ticket::Full;
 use saa_core_guards::mutex::Mutex;
 use saa_core_guards::raw_lock::RawLock;
-use saa_core_guards::rw_lock::RwLock;
 
 /// Two numbers that agree.
 #[derive(Drop)]
@@ -52,34 +51,11 @@ pub fn load<L: RawLock + Drop>(mutex: &Mutex<L, Pair>) -> Result<(u64, u64), Ful
     Ok((guard.first, guard.second))
 }
 
-/// Makes both numbers of a reader-writer lock this one.
-pub fn write<L: RawLock + Drop>(rwlock: &RwLock<L, Pair>, number: u64) -> Result<(), Full> {
-    rwlock.write()?.set(number);
-    Ok(())
-}
-
-/// Both numbers of a reader-writer lock, which agree.
-pub fn read<L: RawLock + Drop>(rwlock: &RwLock<L, Pair>) -> Result<(u64, u64), Full>
-    ensures { IfOk result (λ numbers. numbers.0 ≡ numbers.1) }
-{
-    let guard = rwlock.read()?;
-    Ok((guard.first, guard.second))
-}
-
 /// Writes a number behind a mutex, and reads it back through the same guard: it is the number that was written.
 pub fn put<L: RawLock + Drop>(mutex: &Mutex<L, u64>, number: u64) -> Result<u64, Full>
     ensures { IfOk result (λ shown. shown ≡ number) }
 {
     let mut guard = mutex.lock()?;
-    *guard = number;
-    Ok(*guard)
-}
-
-/// Writes a number behind a reader-writer lock, and reads it back through the same guard.
-pub fn put_to_read<L: RawLock + Drop>(rwlock: &RwLock<L, u64>, number: u64) -> Result<u64, Full>
-    ensures { IfOk result (λ shown. shown ≡ number) }
-{
-    let mut guard = rwlock.write()?;
     *guard = number;
     Ok(*guard)
 }

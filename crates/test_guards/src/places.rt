@@ -6,10 +6,16 @@ use saa_core_guards::raw_lock::{RawLockAsync, RawLockUntil};
 use std::alloc::AllocGlobal;
 use std::io;
 use std::random::RandomSource;
+use std::sync::Wait;
+use std::sync::atomic::AtomicUsize;
+use std::sync::atomic::Ordering::SeqCst;
 use std::thread::yield_now;
 use std::time::{Clock, Instant};
 use test_language::language::{Call, Time};
 use test_language::reply::{Replies, Reply, ReplyWord, number, unknown, word};
+
+// How often a holder gives way to calls that have to wait.
+const LOOKS: u32 = 500;
 
 // A task, its future and its guard.
 #[derive(Drop)]
@@ -34,10 +40,11 @@ impl<'s, L: RawLockAsync + RawLockUntil + Drop> Place<'s, L> {
     }
 
     // Makes a move with this place's future, or another one.
-    pub(crate) fn answer(
+    pub(crate) fn answer<H: Wait + Clock>(
         &mut self,
-        clock: &impl Clock,
+        rt: &H,
         locks: &'s Locks<L>,
+        count: &AtomicUsize,
         call: &Call<'_>,
     ) -> Reply {
         match (call.verb, way_of(call.verb)) {
@@ -49,10 +56,11 @@ impl<'s, L: RawLockAsync + RawLockUntil + Drop> Place<'s, L> {
                 self.pending = Some(locks.future(way));
                 self.poll()
             }
-            (_, Some(way)) => match how_of(clock, call) {
+            (_, Some(way)) => match how_of(rt, call) {
                 Ok(how) => self.keep(locks.acquire(way, how)),
                 Err(_no_clock) => unknown(),
             },
+            ("count" | "await" | "counted", _) => counted(rt, count, call),
             _ => self.with_guard(call),
         }
     }
@@ -93,7 +101,10 @@ impl<'s, L: RawLockAsync + RawLockUntil + Drop> Place<'s, L> {
                 self.held = held.lowered();
                 return self.held.is_some().reply();
             }
-            "unlock_fair" => return held.unlock_fair().reply(),
+            "unlock_fair" => {
+                held.unlock_fair();
+                return word(ReplyWord::Done);
+            }
             "drop" => return word(ReplyWord::Dropped),
             _ => unknown(),
         };
@@ -124,6 +135,32 @@ fn how_of(clock: &impl Clock, call: &Call<'_>) -> io::Result<How> {
     }
     let now = Instant::now(clock)?;
     Ok(How::Until(now.checked_add(long).unwrap_or(now)))
+}
+
+// Counts one, waits until so many are counted, or gives way many times and says how many are.
+fn counted(rt: &impl Wait, count: &AtomicUsize, call: &Call<'_>) -> Reply {
+    match call.verb {
+        "count" => {
+            count.fetch_add(1, SeqCst);
+        }
+        "await" => await_count(rt, count, call.number().unwrap_or(0)),
+        _ => {
+            for _look in 0..LOOKS {
+                yield_now();
+            }
+            return number(count.load(SeqCst));
+        }
+    }
+    word(ReplyWord::Done)
+}
+
+fn await_count(rt: &impl Wait, count: &AtomicUsize, wanted: usize) {
+    for _ in rt.forever() {
+        if count.load(SeqCst) >= wanted {
+            return;
+        }
+        yield_now();
+    }
 }
 
 // Has a guard so often; how many turns saw another number than they must.

@@ -2,7 +2,6 @@
 
 use crate::locks::Locks;
 use crate::places::Place;
-use crate::stage::{OWN, Stage};
 use crate::stories;
 use saa_core_guards::raw_lock::{RawLockAsync, RawLockUntil};
 use saa_sync::lock::Lock;
@@ -10,6 +9,7 @@ use saa_word_lock_free::lock::Lock as LockFree;
 use std::alloc::AllocGlobal;
 use std::random::RandomSource;
 use std::sync::Wait;
+use std::sync::atomic::{AtomicUsize, Ordering};
 use std::test::Fail;
 use std::thread::Threads;
 use std::time::Clock;
@@ -20,6 +20,20 @@ use test_language::reply::unknown;
 
 // How many places there are beside the crowd: the story's own, and those of three tasks.
 const FEW: usize = 4;
+
+// The number of the story's own thread, behind those of the others.
+const OWN: usize = 2;
+
+// More than is ever counted.
+const FAILED: usize = 1_000_000;
+
+// Which thread makes a move.
+fn maker_of(call: &Call<'_>) -> usize {
+    match call.subject {
+        Subject::Thread(thread) => thread,
+        _ => OWN,
+    }
+}
 
 // The places at which a move is made, from one up to another.
 fn places_of(call: &Call<'_>) -> (usize, usize) {
@@ -56,16 +70,17 @@ fn places_for<'s, H: RandomSource + AllocGlobal, L: RawLockAsync + RawLockUntil 
 }
 
 // Makes the move of a row, at one place or at each of a crowd: this row if it is answered otherwise.
-fn failed<'t, 's, L: RawLockAsync + RawLockUntil + Drop>(
-    clock: &impl Clock,
+fn failed<'t, 's, H: Wait + Clock, L: RawLockAsync + RawLockUntil + Drop>(
+    rt: &H,
     locks: &'s Locks<L>,
+    count: &AtomicUsize,
     places: &mut Vec<Place<'s, L>>,
     row: &Move<'t>,
 ) -> Option<Failed<'t>> {
     let (from, to) = places_of(&row.call);
     for place in from..to {
         let answer = match places.get_mut(place) {
-            Some(place) => place.answer(clock, locks, &row.call),
+            Some(place) => place.answer(rt, locks, count, &row.call),
             None => unknown(),
         };
         let failed = Failed::unless(row, answer);
@@ -76,11 +91,11 @@ fn failed<'t, 's, L: RawLockAsync + RawLockUntil + Drop>(
     None
 }
 
-// Plays one thread's part; it passes over rows that aren't its own.
+// Makes the moves of one thread; where one is answered otherwise, no other thread waits for a count.
 fn played<'t, 's, H, L>(
     rt: &'s H,
     locks: &'s Locks<L>,
-    stage: &Stage,
+    count: &AtomicUsize,
     moves: &[Move<'t>],
     thread: usize,
 ) -> io::Result<Option<Failed<'t>>>
@@ -89,22 +104,14 @@ where
     L: RawLockAsync + RawLockUntil + Drop,
 {
     let mut places = places_for(rt, thread, moves)?;
-    for (at, row) in moves.iter().enumerate() {
-        let failed = if stage.makes(rt, thread, at, &row.call) {
-            failed(rt, locks, &mut places, row)
-        } else {
-            match stage.answer(rt, thread, at, &row.call) {
-                Some(answer) => Failed::unless(row, answer),
-                None => None,
+    for row in moves {
+        if maker_of(&row.call) == thread {
+            let failed = failed(rt, locks, count, &mut places, row);
+            if failed.is_some() {
+                count.store(FAILED, Ordering::SeqCst);
+                return Ok(failed);
             }
-        };
-        if failed.is_some() {
-            stage.fail();
         }
-        if stage.has_failed() {
-            return Ok(failed);
-        }
-        stage.end(thread, at);
     }
     Ok(None)
 }
@@ -140,8 +147,8 @@ fn at_threaded<'t, H: Wait + Clock + Threads + Sync + RandomSource + AllocGlobal
     if line.verb == "poisoned" {
         locks.poison();
     }
-    let stage = Stage::new();
-    in_threads(rt, &|thread| played(rt, &locks, &stage, moves, thread))
+    let count = AtomicUsize::new(0);
+    in_threads(rt, &|thread| played(rt, &locks, &count, moves, thread))
 }
 
 fn at_lock_free<'t, H: Wait + Clock + Threads + Sync + RandomSource + AllocGlobal>(
@@ -153,8 +160,8 @@ fn at_lock_free<'t, H: Wait + Clock + Threads + Sync + RandomSource + AllocGloba
     if line.verb == "poisoned" {
         locks.poison();
     }
-    let stage = Stage::new();
-    in_threads(rt, &|thread| played(rt, &locks, &stage, moves, thread))
+    let count = AtomicUsize::new(0);
+    in_threads(rt, &|thread| played(rt, &locks, &count, moves, thread))
 }
 
 // The first row of a story that is answered otherwise at the threaded locks, or at the lock-free ones, where it is told for this number.

@@ -1,7 +1,7 @@
-//! Permits as values at both semaphores: how many are left as they are taken by each call, parted, put together, forgotten and dropped; and that a future of
+//! Permits as values at both semaphores: how many are left as they are taken by each call for many, parted, put together and dropped; and that a future of
 //! them waits, and is told of a shut.
 //!
-//! What a split and a merge leave is proved, and one permit by each call is told by the stories of `test_stories`.
+//! What a split and a merge leave is proved. One permit by each call, and those that are forgotten, are in the stories of `test_stories`.
 
 ghost use Rattle.std.specs.Prelude.{◌≡◌, IfSome};
 ghost use Rattle.saa_core_guards.specs.declared.permit.InTime.TheVariants.{Granted};
@@ -40,13 +40,10 @@ type Polled = Option<Result<Option<usize>, AcquireError>>;
 trait Lends {
     fn left(&self) -> usize;
 
-    // Gives one back that is out.
-    fn returned(&self) -> bool;
-
     fn end(&self) -> bool;
 
     // How many are left at each step as so many permits by this call are parted; nothing if they aren't granted.
-    fn parted(&self, way: Way, count: usize) -> Option<[usize; 5]>;
+    fn parted(&self, way: Way, count: usize) -> Option<[usize; 4]>;
 
     // What a future of so many answers, if need be as the semaphore is shut.
     fn polled(&self, task: &MockTask, count: usize) -> Polled;
@@ -69,15 +66,11 @@ impl<R: Wait + Clock + Drop> Lends for Threaded<R, MAX> {
         self.available_permits(SeqCst)
     }
 
-    fn returned(&self) -> bool {
-        self.release()
-    }
-
     fn end(&self) -> bool {
         self.shut()
     }
 
-    fn parted(&self, way: Way, count: usize) -> Option<[usize; 5]> {
+    fn parted(&self, way: Way, count: usize) -> Option<[usize; 4]> {
         parted(self, permits!(self, way, count)?)
     }
 
@@ -91,15 +84,11 @@ impl<R: Wait + Clock + Drop> Lends for LockFree<R, MAX> {
         self.available_permits(SeqCst)
     }
 
-    fn returned(&self) -> bool {
-        self.release()
-    }
-
     fn end(&self) -> bool {
         self.shut()
     }
 
-    fn parted(&self, way: Way, count: usize) -> Option<[usize; 5]> {
+    fn parted(&self, way: Way, count: usize) -> Option<[usize; 4]> {
         parted(self, permits!(self, way, count)?)
     }
 
@@ -118,9 +107,8 @@ fn granted<P: Drop>(answer: InTime<P>) -> Option<P>
     }
 }
 
-// How many are left beside four permits; after one was split off and went; after the others were parted and put together again; after one of these was
-// forgotten; and once the last two are gone.
-fn parted<S: Lends, H: Holder>(semaphore: &S, permits: PermitFrom<H>) -> Option<[usize; 5]> {
+// How many are left beside four permits; after one was split off and went; after the others were parted and put together again; and once they are gone.
+fn parted<S: Lends, H: Holder>(semaphore: &S, permits: PermitFrom<H>) -> Option<[usize; 4]> {
     let mut four = permits;
     let beside_four = semaphore.left();
     drop(four.split(1)?);
@@ -128,16 +116,8 @@ fn parted<S: Lends, H: Holder>(semaphore: &S, permits: PermitFrom<H>) -> Option<
     let mut two = four.split(2)?;
     two.merge(four).ok()?;
     let beside_merged = semaphore.left();
-    two.split(1)?.forget();
-    let beside_two = semaphore.left();
     drop(two);
-    Some([
-        beside_four,
-        beside_three,
-        beside_merged,
-        beside_two,
-        semaphore.left(),
-    ])
+    Some([beside_four, beside_three, beside_merged, semaphore.left()])
 }
 
 // Polls a future; one that waits is polled again if a shut wakes its task.
@@ -159,13 +139,14 @@ where
 }
 
 // What is answered otherwise at a semaphore of five permits, all in.
-fn first_wrong<S: Lends>(task: &MockTask, semaphore: &S, end: Instant) -> Option<&'static str> {
+fn first_wrong<S: Lends + RawSemaphore>(
+    task: &MockTask,
+    semaphore: &S,
+    end: Instant,
+) -> Option<&'static str> {
     for way in [Way::Try, Way::Wait, Way::For, Way::Until(end)] {
-        if semaphore.parted(way, 4) != Some([1, 2, 2, 2, 4]) {
+        if semaphore.parted(way, 4) != Some([1, 2, 2, 5]) {
             return Some("parts are put together again");
-        }
-        if semaphore.parted(Way::Try, 5).is_some() || !semaphore.returned() {
-            return Some("what is forgotten stays out");
         }
         if semaphore.parted(way, 6).is_some() {
             return Some("more than there are");
@@ -177,7 +158,10 @@ fn first_wrong<S: Lends>(task: &MockTask, semaphore: &S, end: Instant) -> Option
     if semaphore.polled(task, 6) != Some(Ok(None)) {
         return Some("a task asks for more than there are");
     }
-    let _one_stays_out = semaphore.parted(Way::Try, 4);
+    let _one = PermitFrom::try_acquire(semaphore, 1);
+    if semaphore.parted(Way::Try, 5).is_some() {
+        return Some("more than are available");
+    }
     if semaphore.polled(task, 5) != Some(Err(AcquireError::Closed)) {
         return Some("a task is told of a shut");
     }
