@@ -1,5 +1,4 @@
-//! A mutex and a reader-writer lock round a number each, every way to ask for a guard of theirs, and what it tells. They are over any lock: the
-//! threaded one, or the lock-free one.
+//! A mutex and a reader-writer lock round a number each, and every call for a guard of theirs, over any lock: the threaded one, or the lock-free one.
 
 use futures::task::Poll;
 use futures::test::MockTask;
@@ -16,7 +15,8 @@ use saa_sync::lock::Lock;
 use saa_word_lock_free::lock::Lock as LockFree;
 use std::alloc::{AllocError, AllocGlobal};
 use std::sync::Wait;
-use std::time::Duration;
+use std::time::{Duration, Instant};
+use test_language::reply::{Replies, Reply, ReplyWord, word};
 
 // Which guard is asked for.
 #[derive(Clone, Copy)]
@@ -26,11 +26,38 @@ pub(crate) enum Way {
     Write,
 }
 
-// How long the timed call waits, in seconds: none waits so long.
-const LONG: u64 = 50;
+// By which call.
+#[derive(Clone, Copy)]
+pub(crate) enum How {
+    Wait,
+    Try,
+    For(Duration),
+    Until(Instant),
+}
 
-// What a call for a guard gives: nothing, or the guard, or that there is no room.
-pub(crate) type Given<'s, L> = Option<Result<Held<'s, L>, Full>>;
+// Why a call for a guard gives none.
+#[derive(Clone, Copy)]
+pub(crate) enum NoGuard {
+    None,
+    Pending,
+    Full,
+}
+
+impl From<Full> for NoGuard {
+    fn from(_full: Full) -> Self {
+        NoGuard::Full
+    }
+}
+
+impl Replies for NoGuard {
+    fn reply(self) -> Reply {
+        word(match self {
+            NoGuard::None => ReplyWord::None,
+            NoGuard::Pending => ReplyWord::Pending,
+            NoGuard::Full => ReplyWord::Full,
+        })
+    }
+}
 
 // A lock that tests poison, as no lock below a mutex or a reader-writer lock ever is.
 pub(crate) trait Poisoned {
@@ -54,15 +81,15 @@ impl<R: Wait + Drop> Poisoned for LockFree<R> {
 // A mutex and a reader-writer lock.
 #[derive(Drop)]
 pub(crate) struct Locks<L: RawLockAsync + RawLockUntil + Drop> {
-    mutex: Mutex<L, u64>,
-    rwlock: RwLock<L, u64>,
+    mutex: Mutex<L, usize>,
+    rwlock: RwLock<L, usize>,
 }
 
 impl<L: RawLockAsync + RawLockUntil + Drop> Locks<L> {
     // Both locks round this number, with room for so many waiters each.
     pub(crate) fn new<'h, H: AllocGlobal>(
         rt: &'h H,
-        number: u64,
+        number: usize,
         room: u16,
     ) -> Result<Self, AllocError>
     where
@@ -83,39 +110,48 @@ impl<L: RawLockAsync + RawLockUntil + Drop> Locks<L> {
         lock_of(&self.rwlock).poison();
     }
 
-    // The guard, by the call that waits for it.
-    pub(crate) fn wait(&self, way: Way) -> Result<Held<'_, L>, Full> {
+    // The guard, by this call.
+    pub(crate) fn acquire(&self, way: Way, how: How) -> Result<Held<'_, L>, NoGuard> {
         Ok(match way {
-            Way::Lock => Held::Mutex(self.mutex.lock()?),
-            Way::Read => Held::Reader(self.rwlock.read()?),
-            Way::Write => Held::Writer(self.rwlock.write()?),
+            Way::Lock => Held::Mutex(self.lock(how)?),
+            Way::Read => Held::Reader(self.read(how)?),
+            Way::Write => Held::Writer(self.write(how)?),
         })
     }
 
-    // The mutex's guard, by the call that waits for it in time.
-    pub(crate) fn lock_for(&self) -> Given<'_, L> {
-        match self.mutex.lock_for(Duration::from_secs(LONG)) {
-            Ok(Some(guard)) => Some(Ok(Held::Mutex(guard))),
-            Ok(None) => None,
-            Err(full) => Some(Err(full)),
+    fn lock(&self, how: How) -> Result<MutexGuard<'_, L, usize>, NoGuard> {
+        match how {
+            How::Wait => Ok(self.mutex.lock()?),
+            How::Try => self.mutex.try_lock().ok_or(NoGuard::None),
+            How::For(long) => self.mutex.lock_for(long)?.ok_or(NoGuard::None),
+            How::Until(end) => self.mutex.lock_until(end)?.ok_or(NoGuard::None),
         }
     }
 
-    // The guard, if it is granted at once.
-    pub(crate) fn attempt(&self, way: Way) -> Given<'_, L> {
-        Some(Ok(match way {
-            Way::Lock => Held::Mutex(self.mutex.try_lock()?),
-            Way::Read => Held::Reader(self.rwlock.try_read()?),
-            Way::Write => Held::Writer(self.rwlock.try_write()?),
-        }))
+    fn read(&self, how: How) -> Result<RwLockReadGuard<'_, L, usize>, NoGuard> {
+        match how {
+            How::Wait => Ok(self.rwlock.read()?),
+            How::Try => self.rwlock.try_read().ok_or(NoGuard::None),
+            How::For(long) => self.rwlock.read_for(long)?.ok_or(NoGuard::None),
+            How::Until(end) => self.rwlock.read_until(end)?.ok_or(NoGuard::None),
+        }
+    }
+
+    fn write(&self, how: How) -> Result<RwLockWriteGuard<'_, L, usize>, NoGuard> {
+        match how {
+            How::Wait => Ok(self.rwlock.write()?),
+            How::Try => self.rwlock.try_write().ok_or(NoGuard::None),
+            How::For(long) => self.rwlock.write_for(long)?.ok_or(NoGuard::None),
+            How::Until(end) => self.rwlock.write_until(end)?.ok_or(NoGuard::None),
+        }
     }
 
     // The future of the guard.
-    pub(crate) fn ask(&self, way: Way) -> Asked<'_, L> {
+    pub(crate) fn future(&self, way: Way) -> Pending<'_, L> {
         match way {
-            Way::Lock => Asked::Mutex(lock_async(&self.mutex)),
-            Way::Read => Asked::Reader(read_async(&self.rwlock)),
-            Way::Write => Asked::Writer(write_async(&self.rwlock)),
+            Way::Lock => Pending::Mutex(lock_async(&self.mutex)),
+            Way::Read => Pending::Reader(read_async(&self.rwlock)),
+            Way::Write => Pending::Writer(write_async(&self.rwlock)),
         }
     }
 }
@@ -123,14 +159,14 @@ impl<L: RawLockAsync + RawLockUntil + Drop> Locks<L> {
 // A guard of either lock.
 #[derive(Drop)]
 pub(crate) enum Held<'s, L: RawLockAsync + RawLockUntil + Drop> {
-    Mutex(MutexGuard<'s, L, u64>),
-    Reader(RwLockReadGuard<'s, L, u64>),
-    Writer(RwLockWriteGuard<'s, L, u64>),
+    Mutex(MutexGuard<'s, L, usize>),
+    Reader(RwLockReadGuard<'s, L, usize>),
+    Writer(RwLockWriteGuard<'s, L, usize>),
 }
 
 impl<'s, L: RawLockAsync + RawLockUntil + Drop> Held<'s, L> {
     // The number that it shows.
-    pub(crate) fn shown(&self) -> u64 {
+    pub(crate) fn shown(&self) -> usize {
         match self {
             Held::Mutex(guard) => **guard,
             Held::Reader(guard) => **guard,
@@ -139,7 +175,7 @@ impl<'s, L: RawLockAsync + RawLockUntil + Drop> Held<'s, L> {
     }
 
     // Writes this number; whether it may.
-    pub(crate) fn put(&mut self, number: u64) -> bool {
+    pub(crate) fn put(&mut self, number: usize) -> bool {
         match self {
             Held::Mutex(guard) => **guard = number,
             Held::Reader(_) => return false,
@@ -156,50 +192,39 @@ impl<'s, L: RawLockAsync + RawLockUntil + Drop> Held<'s, L> {
         }
     }
 
-    // Gives a mutex's guard up by the call for that, which is one for all guards; whether it is one.
-    pub(crate) fn unlock_fair(self) -> bool {
+    // Gives the guard up by the call for that.
+    pub(crate) fn unlock_fair(self) {
         match self {
-            Held::Mutex(guard) => {
-                Guard::unlock_fair(guard);
-                true
-            }
-            _ => false,
+            Held::Mutex(guard) => Guard::unlock_fair(guard),
+            Held::Reader(guard) => Guard::unlock_fair(guard),
+            Held::Writer(guard) => Guard::unlock_fair(guard),
         }
     }
 }
 
 // A future of a guard.
 #[derive(Drop)]
-pub(crate) enum Asked<'s, L: RawLockAsync + RawLockUntil + Drop> {
-    Mutex(MutexFuture<'s, L, u64>),
-    Reader(ReadFuture<'s, L, u64>),
-    Writer(WriteFuture<'s, L, u64>),
+pub(crate) enum Pending<'s, L: RawLockAsync + RawLockUntil + Drop> {
+    Mutex(MutexFuture<'s, L, usize>),
+    Reader(ReadFuture<'s, L, usize>),
+    Writer(WriteFuture<'s, L, usize>),
 }
 
-impl<'s, L: RawLockAsync + RawLockUntil + Drop> Asked<'s, L> {
-    // What a poll by this task gives, if it is ready.
-    pub(crate) fn poll(&mut self, task: &MockTask) -> Given<'s, L> {
-        Some(match self {
-            Asked::Mutex(future) => match ready(task.poll(future))? {
-                Ok(guard) => Ok(Held::Mutex(guard)),
-                Err(full) => Err(full),
-            },
-            Asked::Reader(future) => match ready(task.poll(future))? {
-                Ok(guard) => Ok(Held::Reader(guard)),
-                Err(full) => Err(full),
-            },
-            Asked::Writer(future) => match ready(task.poll(future))? {
-                Ok(guard) => Ok(Held::Writer(guard)),
-                Err(full) => Err(full),
-            },
+impl<'s, L: RawLockAsync + RawLockUntil + Drop> Pending<'s, L> {
+    // The guard, by a poll of this task.
+    pub(crate) fn poll(&mut self, task: &MockTask) -> Result<Held<'s, L>, NoGuard> {
+        Ok(match self {
+            Pending::Mutex(future) => Held::Mutex(ready(task.poll(future))?),
+            Pending::Reader(future) => Held::Reader(ready(task.poll(future))?),
+            Pending::Writer(future) => Held::Writer(ready(task.poll(future))?),
         })
     }
 }
 
 // What a poll gave, if it was ready.
-fn ready<T>(polled: Poll<T>) -> Option<T> {
+fn ready<G>(polled: Poll<Result<G, Full>>) -> Result<G, NoGuard> {
     match polled {
-        Poll::Ready(value) => Some(value),
-        Poll::Pending => None,
+        Poll::Ready(answer) => Ok(answer?),
+        Poll::Pending => Err(NoGuard::Pending),
     }
 }

@@ -1,14 +1,13 @@
-//! A type whose invariant matters: two numbers that agree, behind each of the two locks.
+//! A type whose invariant matters, behind a mutex: two numbers that agree (`guide_mutex` has one behind a reader-writer lock).
 //!
-//! A writer has to leave the numbers equal, and a reader may use that they are. Beside them a plain number, which
-//! shows that what is written through a guard is what it shows at its next use.
+//! An owner has to leave the numbers equal, and may use that they are. Beside them a plain number, which shows that what is written through a guard is
+//! what it shows at its next use.
 
 ghost use Rattle.std.specs.Prelude.{◌≡◌, IfOk};
 
 use saa_core::ticket::Full;
 use saa_core_guards::mutex::Mutex;
 use saa_core_guards::raw_lock::RawLock;
-use saa_core_guards::rw_lock::RwLock;
 
 /// Two numbers that agree.
 #[derive(Drop)]
@@ -52,20 +51,6 @@ pub fn load<L: RawLock + Drop>(mutex: &Mutex<L, Pair>) -> Result<(u64, u64), Ful
     Ok((guard.first, guard.second))
 }
 
-/// Makes both numbers of a reader-writer lock this one.
-pub fn write<L: RawLock + Drop>(rwlock: &RwLock<L, Pair>, number: u64) -> Result<(), Full> {
-    rwlock.write()?.set(number);
-    Ok(())
-}
-
-/// Both numbers of a reader-writer lock, which agree.
-pub fn read<L: RawLock + Drop>(rwlock: &RwLock<L, Pair>) -> Result<(u64, u64), Full>
-    ensures { IfOk result (λ numbers. numbers.0 ≡ numbers.1) }
-{
-    let guard = rwlock.read()?;
-    Ok((guard.first, guard.second))
-}
-
 /// Writes a number behind a mutex, and reads it back through the same guard: it is the number that was written.
 pub fn put<L: RawLock + Drop>(mutex: &Mutex<L, u64>, number: u64) -> Result<u64, Full>
     ensures { IfOk result (λ shown. shown ≡ number) }
@@ -75,39 +60,18 @@ pub fn put<L: RawLock + Drop>(mutex: &Mutex<L, u64>, number: u64) -> Result<u64,
     Ok(*guard)
 }
 
-/// Writes a number behind a reader-writer lock, and reads it back through the same guard.
-pub fn put_to_read<L: RawLock + Drop>(rwlock: &RwLock<L, u64>, number: u64) -> Result<u64, Full>
-    ensures { IfOk result (λ shown. shown ≡ number) }
-{
-    let mut guard = rwlock.write()?;
-    *guard = number;
-    Ok(*guard)
-}
-
 #[cfg(test)]
 mod tests {
-    use saa_core_guards::guarded::Guarded;
-    use saa_core_guards::mutex::Mutex;
-    use saa_core_guards::raw_lock::RawLock;
-    use saa_sync::lock::Lock;
-    use std::alloc::{AllocError, AllocGlobal};
-    use std::sync::Wait;
+    use saa_sync::Mutex;
+    use std::test::Fail;
     use test_asserts::same;
 
-    // The value behind a lock of either kind, and the value once another number is written there with no guard.
-    fn renewed<L: RawLock + Drop, K>(mut guarded: Guarded<L, u64, K>) -> [u64; 2] {
-        let first = *guarded.get_mut();
-        *guarded.get_mut() = 6;
-        [first, guarded.into_inner()]
-    }
-
-    fn renewed_mutex<H: Wait + AllocGlobal>(rt: &H) -> Result<[u64; 2], AllocError> {
-        let mutex: Mutex<Lock<&H>, u64> = Mutex::new(rt, rt.alloc(), 5, 0)?;
-        Ok(renewed(mutex))
-    }
-
     #[test]
-    fn a_number_of_its_own(rt: HostRuntime) {
-        same!(rt; renewed_mutex(&rt), Ok([5, 6]));
+    fn a_number_of_its_own(rt: HostRuntime) -> Result<(), Fail> {
+        let mut mutex = Mutex::new(&rt, rt.alloc(), 5, 0)?;
+        same!(rt; *mutex.get_mut(), 5);
+        *mutex.get_mut() = 6;
+        same!(rt; mutex.into_inner(), 6);
+        Ok(())
     }
 }

@@ -1,278 +1,175 @@
-//! Stories of both locks as tables: what each task does, row by row, and what it must be told.
+//! Stories of guards.
 //!
-//! A call in a test's text is proved there anew; one in a row of a table is data, and costs no proof.
+//! A first line `locks 5 2` makes a mutex and a reader-writer lock round the number 5, each with room for two waiters; `poisoned 5 2` has both
+//! poisoned. Moves are those of `test_language`, with these words. Who makes one is the story itself, a task (`a`, `b`, `c`), each of a crowd in turn, or
+//! one of two threads beside it (`t1`, `t2`), whose guard goes at once.
+//!
+//! | Words | Mean |
+//! |---|---|
+//! | `lock`, `read`, `write`, with `try_` ahead, or `_for`, `_until` and a time behind | a call for a guard, which is then held: its number, `full`, or `none` |
+//! | `a lock_async`, `a read_async`, `a write_async` | the task polls a new future of a guard: as above, or `pending` |
+//! | `a poll`, `a woken`, `a cancel` | it polls that again; whether it was woken since; it drops the future |
+//! | `shows`, `put 6`, `downgrade`, `unlock_fair`, `drop` | the guard's number, which is written; it becomes a reader's; it is given up, by the call for that or by a drop |
+//! | `turns 100 lock` | so often a guard that makes the number 2 more, by 1 at a time, if it may (of `downgrade` a writer's, which then reads): how often it showed a number that it must not |
+//! | `count`, `await 3`, `counted` | adds one to the count of all threads, waits until it is so many, gives way many times and says how many it is |
 
-use crate::locks::{Asked, Given, Held, Locks, Poisoned, Way};
-use crate::{mutexes, poisoned, rooms, rwlocks, tasks};
-use futures::test::MockTask;
-use saa_core::ticket::Full;
-use saa_core_guards::raw_lock::{RawLockAsync, RawLockUntil};
-use saa_sync::lock::Lock;
-use saa_word_lock_free::lock::Lock as LockFree;
-use std::alloc::AllocGlobal;
-use std::io;
-use std::random::RandomSource;
-use std::sync::Wait;
-use std::time::Clock;
-use test_asserts::same;
+/// The mutex in one thread: what its guard shows and writes, and when its calls answer that they can't.
+pub(crate) const MUTEX: &str = "\
+# What a guard wrote the next one shows, after a drop and after a fair unlock.
+locks 0 4
+lock -> 0; put 1; shows -> 1; a try_lock -> none; drop; try_lock -> 1; put 7; a try_lock -> none; unlock_fair; a try_lock -> 7; a drop
+# Timed calls: at once, late, and again once the holder goes.
+lock_for 2ms -> 7; drop; lock_until 2ms -> 7; a lock_for 2ms -> none; a lock_until 2ms -> none; drop; a lock_for 2ms -> 7; a drop; a lock_until 2ms -> 7
 
-// What a call for a guard is told: nothing yet, or the number that the guard shows, or that there is no room.
-pub(crate) type Told = Option<Result<u64, Full>>;
+# With no room, while it is locked, no thread may wait for it, no try is granted, and no task may wait.
+locks 5 0
+lock -> 5; a lock -> full; a try_lock -> none; a lock_async -> full; a lock_for 2ms -> full; a lock_until 2ms -> full; drop
+a lock_for 2ms -> 5; a drop; a lock_until 2ms -> 5
+";
 
-// Nobody may wait any more.
-pub(crate) const FULL: Told = Some(Err(Full));
+/// The reader-writer lock in one thread: readers share it, a writer is alone.
+pub(crate) const RWLOCK: &str = "\
+# Two guards show the value at the same time.
+locks 0 4
+read -> 0; a read -> 0; shows -> 0; a shows -> 0; drop; a drop
+# Two get shares, and no writer is granted the lock meanwhile.
+read -> 0; a try_read -> 0; b try_write -> none; drop; a drop
+# Beside a writer neither a reader nor another writer is granted the lock.
+write -> 0; put 1; a try_read -> none; a try_write -> none; drop; read -> 1; drop
+# A writer that becomes a reader reads what it wrote.
+write -> 1; put 2; downgrade; shows -> 2
+# Another reader sees it too, and no writer is granted the lock meanwhile.
+a try_read -> 2; a drop; b try_write -> none; drop; try_write -> 2; put 7; drop; try_read -> 7; drop
+# Timed calls: at once, beside a reader, beside a writer, and once nobody has it.
+write_for 2ms -> 7; drop; write_until 2ms -> 7; drop; read_until 2ms -> 7; drop; read_for 2ms -> 7
+a read_for 2ms -> 7; a drop; a read_until 2ms -> 7; a drop; a write_for 2ms -> none; a write_until 2ms -> none; drop; write_for 2ms -> 7
+a read_for 2ms -> none; a read_until 2ms -> none; a write_for 2ms -> none; a write_until 2ms -> none; drop
+a read_until 2ms -> 7; a drop; a write_until 2ms -> 7
 
-// A number that no writer writes: there is no future to poll.
-const NOTHING: u64 = u64::MAX;
+# With no room nobody may wait to write beside a reader, and another may read.
+locks 5 0
+read_for 2ms -> 5; a write -> full; a write_for 2ms -> full; a write_until 2ms -> full; a read -> 5; a drop; a read_until 2ms -> 5; drop; a drop
+# Nobody may wait beside a writer.
+try_write -> 5; a write -> full; a read -> full; a read_for 2ms -> full; a read_until 2ms -> full; drop; write_for 2ms -> 5; drop; write_until 2ms -> 5
 
-// What a task does, and what it is told. A guard that it is given stays with it.
-#[derive(Clone, Copy)]
-pub(crate) enum Act {
-    // Takes a guard by the call that waits, or by the one that never does.
-    Waits(Way, Told),
-    Tries(Way, Told),
-    // Makes a future of a guard and polls it, or polls the one that it made.
-    Asks(Way, Told),
-    Polls(Told),
-    // Whether it was woken since its last poll.
-    IsWoken(bool),
-    // Its guard shows this number, writes this one, becomes a reader's, or is given up by the call for that.
-    Shows(u64),
-    Puts(u64),
-    Lowers,
-    UnlocksFairly,
-    // Drops its guard, or its future.
-    Ends,
-    Leaves,
-}
+# As many readers as may share: no more shares are granted, and there is no room to wait for one.
+locks 9 0
+crowd 62 try_read -> 9; try_read -> none; read -> full; crowd 62 shows -> 9; crowd 62 drop; try_write -> 9
+";
 
-// Which task does it: one, or each of the story's crowd in turn.
-#[derive(Clone, Copy)]
-pub(crate) enum Who {
-    One,
-    Two,
-    Three,
-    Four,
-    Crowd,
-}
+/// Futures of guards, polled by hand: they are granted in the order in which they joined the queue, and leave it when dropped.
+pub(crate) const TASKS: &str = "\
+# A mutex is granted in the order of joining: to the oldest waiter, and to no other before that one.
+locks 0 2
+try_lock -> 0; a lock_async -> pending; b lock_async -> pending; c lock -> full; a woken -> false; b woken -> false; drop; a woken; b woken -> false
+c try_lock -> none; b poll -> pending; a poll -> 0; a put 1; a drop; b woken; b poll -> 1; b put 2
 
-// How many tasks there are beside the crowd.
-const FEW: usize = 4;
+# Behind a writer that waits no reader is granted a share beside the first.
+locks 0 2
+read -> 0; a write_async -> pending; c try_read -> none; b read_async -> pending; c read -> full; drop; a woken; b woken -> false; a poll -> 0; a put 1
+b poll -> pending; a drop; b poll -> 1; c try_write -> none; c try_read -> 1
 
-// A row of a story.
-pub(crate) type Row = (Who, Act);
+# A writer that becomes a reader lets readers in up to the next writer.
+locks 0 3
+try_write -> 0; put 1; a read_async -> pending; b write_async -> pending; c read_async -> pending; downgrade; a woken; b woken -> false; c woken -> false
+a poll -> 1; shows -> 1
+# The writer waits behind both readers, and is woken once both are gone.
+b poll -> pending; drop; b woken -> false; a drop; b woken; c woken -> false; b poll -> 1; b drop; c woken; c poll -> 1
 
-// What happens at two new locks.
-pub(crate) struct Story {
-    pub(crate) name: &'static str,
-    // The number that is behind each lock at first, for how many waiters it has room, and how many the crowd are.
-    pub(crate) number: u64,
-    pub(crate) room: u16,
-    pub(crate) crowd: u16,
-    pub(crate) rows: &'static [Row],
-}
+# A dropped writer lets the readers behind it in.
+locks 4 3
+try_read -> 4; a write_async -> pending; b read_async -> pending; c read_async -> pending; b woken -> false; c woken -> false; a cancel; b woken; c woken
+b poll -> 4; c poll -> 4
 
-// A task, its future and its guard.
-#[derive(Drop)]
-struct Place<'s, L: RawLockAsync + RawLockUntil + Drop> {
-    task: MockTask,
-    asked: Option<Asked<'s, L>>,
-    held: Option<Held<'s, L>>,
-}
+# A grant that is dropped untaken goes to the next waiter.
+locks 0 2
+try_lock -> 0; a lock_async -> pending; b lock_async -> pending; c lock -> full; a woken -> false; b woken -> false; drop; a woken; b woken -> false
+a cancel; b woken; b poll -> 0; b drop; c try_lock -> 0
 
-impl<'s, L: RawLockAsync + RawLockUntil + Drop> Place<'s, L> {
-    fn new<H: RandomSource + AllocGlobal>(rt: &H) -> io::Result<Self> {
-        Ok(Place {
-            task: MockTask::new(rt)?,
-            asked: None,
-            held: None,
-        })
-    }
+# Futures of a full room end; a task that polls one after its end waits, and is woken to poll it again.
+locks 0 0
+try_write -> 0; a read_async -> full; b write_async -> full; b poll -> pending; b woken
+";
 
-    // Keeps the guard that was given; what was told.
-    fn keep(&mut self, given: Given<'s, L>) -> Told {
-        match given? {
-            Ok(held) => {
-                let shown = held.shown();
-                self.held = Some(held);
-                Some(Ok(shown))
-            }
-            Err(full) => Some(Err(full)),
-        }
-    }
+/// Every room is filled to its last place and one more: each place keeps its task's waker, and the next call is told that the room is full.
+pub(crate) const ROOMS: &str = "\
+# A mutex: the oldest is woken alone.
+each 0 19 31 299
+locks 0 N+1
+try_lock -> 0; a lock_async -> pending; a woken -> false; crowd N lock_async -> pending; crowd N woken -> false; b lock -> full; b lock_async -> full
+drop; a woken; crowd N woken -> false
 
-    fn ask(&mut self, asked: Asked<'s, L>) -> Told {
-        self.asked = Some(asked);
-        self.poll()
-    }
+# A reader-writer lock, by a writer.
+locks 0 1
+try_write -> 0; c write_async -> pending; c woken -> false; b read -> full; b write -> full; b read_async -> full; drop; c woken
 
-    fn poll(&mut self) -> Told {
-        match &mut self.asked {
-            Some(asked) => {
-                let told = asked.poll(&self.task);
-                self.keep(told)
-            }
-            None => Some(Ok(NOTHING)),
-        }
-    }
+# By readers, and a writer behind them.
+each 18 30 298
+locks 0 N+2
+try_write -> 0; a read_async -> pending; a woken -> false; crowd N read_async -> pending; crowd N woken -> false; c write_async -> pending
+c woken -> false; b read -> full; b write -> full; b read_async -> full; drop; a woken; c woken -> false
+";
 
-    fn shows(&self, number: u64) -> bool {
-        match &self.held {
-            Some(held) => held.shown() == number,
-            None => false,
-        }
-    }
+/// Locks that are poisoned, as those below mutexes and reader-writer locks never are: a call that waits clears the poison, and a try and a future are
+/// given nothing.
+pub(crate) const POISONED: &str = "\
+# A mutex is cleared, and then owned alone.
+poisoned 3 1
+try_lock -> none; a lock_async -> pending; a woken; a poll -> pending; a cancel; lock -> 3; a try_lock -> none; drop; a try_lock -> 3
+# A reader-writer lock is, by a writer.
+b try_write -> none; b write_async -> pending; b woken; b cancel; write -> 3; b try_read -> none; drop; b try_write -> 3
 
-    fn put(&mut self, number: u64) -> bool {
-        match &mut self.held {
-            Some(held) => held.put(number),
-            None => false,
-        }
-    }
+# Or by a reader.
+poisoned 5 1
+try_read -> none; a read_async -> pending; a woken; a cancel; read -> 5; a try_read -> 5; b try_write -> none; drop; a drop
 
-    fn lower(&mut self) -> bool {
-        self.held = match self.held.take() {
-            Some(held) => held.lowered(),
-            None => None,
-        };
-        self.held.is_some()
-    }
+# By timed calls.
+poisoned 6 1
+lock_for 1h -> 6; a write_until 1h -> 6; b try_lock -> none; b try_read -> none
 
-    fn unlock(&mut self) -> bool {
-        match self.held.take() {
-            Some(held) => held.unlock_fair(),
-            None => false,
-        }
-    }
+poisoned 6 1
+lock_until 1h -> 6; a read_for 1h -> 6; b try_lock -> none; b try_write -> none; b try_read -> 6
 
-    fn end(&mut self) -> bool {
-        self.held.take().is_some()
-    }
+poisoned 6 1
+write_for 1h -> 6; a try_read -> none; drop; read_until 1h -> 6; a try_write -> none; a try_read -> 6
+";
 
-    fn leave(&mut self) -> bool {
-        self.asked.take().is_some()
-    }
+/// Several threads: guards exclude each other, and a call that has to wait does, is granted the lock once the holder's guard goes, and sees what was
+/// written. (With room for each thread: one that asks again may find its neighbour's place not given back yet.)
+pub(crate) const THREADS: &str = "\
+# Nothing that is added is lost.
+locks 100 4
+t1 turns 150 lock -> 0; t1 count; t2 turns 150 lock -> 0; t2 count; turns 150 lock -> 0; await 2; try_lock -> 1000
 
-    // Does this; whether it is told what it must be.
-    fn does(&mut self, locks: &'s Locks<L>, act: Act) -> bool {
-        match act {
-            Act::Waits(way, wanted) => self.keep(Some(locks.wait(way))) == wanted,
-            Act::Tries(way, wanted) => self.keep(locks.attempt(way)) == wanted,
-            Act::Asks(way, wanted) => self.ask(locks.ask(way)) == wanted,
-            Act::Polls(wanted) => self.poll() == wanted,
-            Act::IsWoken(wanted) => self.task.is_woken() == wanted,
-            Act::Shows(number) => self.shows(number),
-            Act::Puts(number) => self.put(number),
-            Act::Lowers => self.lower(),
-            Act::UnlocksFairly => self.unlock(),
-            Act::Ends => self.end(),
-            Act::Leaves => self.leave(),
-        }
-    }
-}
+# No reader sees half a write.
+locks 100 4
+t1 turns 150 write -> 0; t1 count; t2 turns 150 read -> 0; t2 count; turns 150 write -> 0; await 2; try_write -> 700
 
-// The places of these tasks of so many, from one up to another.
-fn places_of(who: Who, all: usize) -> (usize, usize) {
-    match who {
-        Who::One => (0, 1),
-        Who::Two => (1, 2),
-        Who::Three => (2, 3),
-        Who::Four => (3, 4),
-        Who::Crowd => (FEW, all),
-    }
-}
+# Nobody writes between a write and the reading after it.
+locks 100 4
+t1 turns 150 downgrade -> 0; t1 count; t2 turns 150 write -> 0; t2 count; turns 150 downgrade -> 0; await 2; try_write -> 1000
 
-// Plays a row; whether all is told as it must be.
-fn plays<'s, L: RawLockAsync + RawLockUntil + Drop>(
-    locks: &'s Locks<L>,
-    places: &mut Vec<Place<'s, L>>,
-    row: Row,
-) -> bool {
-    let (from, to) = places_of(row.0, places.len());
-    for place in from..to {
-        let is_right = match places.get_mut(place) {
-            Some(place) => place.does(locks, row.1),
-            None => false,
-        };
-        if !is_right {
-            return false;
-        }
-    }
-    true
-}
+# Beside an owner no other call is granted the mutex. Each thread counts as it begins, and the others count again as they are let in.
+each 1 2 3
+locks 100 4
+try_lock -> 100; count; await 3; counted -> 3; put 200; drop; await 5; try_lock -> 200
+t1 await 1; t1 count; t1 lock -> 200; t1 count; t2 await 1; t2 count; t2 lock_for 50s -> 200; t2 count
 
-// The tasks of a story with so large a crowd.
-fn tasks_of<'s, H: RandomSource + AllocGlobal, L: RawLockAsync + RawLockUntil + Drop>(
-    rt: &H,
-    crowd: u16,
-) -> io::Result<Vec<Place<'s, L>>> {
-    let mut places = Vec::new(rt.alloc());
-    for _place in 0..FEW + usize::from(crowd) {
-        places.push(Place::new(rt)?)?;
-    }
-    Ok(places)
-}
+# Beside a writer neither readers nor writers are.
+each 1 2 3
+locks 100 4
+try_write -> 100; count; await 3; counted -> 3; put 200; drop; await 5; try_write -> 200
+t1 await 1; t1 count; t1 read -> 200; t1 count; t2 await 1; t2 count; t2 write -> 200; t2 count
 
-// The first row of a story that was told otherwise at these new locks, counted from 0.
-fn first_row<H: RandomSource + AllocGlobal, L: RawLockAsync + RawLockUntil + Poisoned + Drop>(
-    rt: &H,
-    locks: &Locks<L>,
-    are_poisoned: bool,
-    story: &Story,
-) -> io::Result<Option<usize>> {
-    if are_poisoned {
-        locks.poison();
-    }
-    let mut places = tasks_of(rt, story.crowd)?;
-    for (place, row) in story.rows.iter().enumerate() {
-        if !plays(locks, &mut places, *row) {
-            return Ok(Some(place));
-        }
-    }
-    Ok(None)
-}
+# A writer waits for readers too.
+each 1 2 3
+locks 100 4
+try_read -> 100; count; await 3; counted -> 3; drop; await 5; try_write -> 100
+t1 await 1; t1 count; t1 write -> 100; t1 count; t2 await 1; t2 count; t2 write_for 50s -> 100; t2 count
+";
 
-// The stories, and whether the locks are poisoned.
-static ALL: [(bool, &[Story]); 5] = [
-    (false, &mutexes::STORIES),
-    (false, &rwlocks::STORIES),
-    (false, &tasks::STORIES),
-    (false, &rooms::STORIES),
-    (true, &poisoned::STORIES),
-];
-
-// The first of all stories in which a row was told otherwise, and that row, each at new locks of one kind. (Each kind by itself: the borrow checker
-// covers no function that makes any lock and knows a story.)
-fn first_threaded<H: Wait + Clock + RandomSource + AllocGlobal>(
-    rt: &H,
-) -> io::Result<Option<(&'static str, usize)>> {
-    for (are_poisoned, stories) in &ALL {
-        for story in *stories {
-            let locks: Locks<Lock<&H>> = Locks::new(rt, story.number, story.room)?;
-            if let Some(row) = first_row(rt, &locks, *are_poisoned, story)? {
-                return Ok(Some((story.name, row)));
-            }
-        }
-    }
-    Ok(None)
-}
-
-fn first_lock_free<H: Wait + Clock + RandomSource + AllocGlobal>(
-    rt: &H,
-) -> io::Result<Option<(&'static str, usize)>> {
-    for (are_poisoned, stories) in &ALL {
-        for story in *stories {
-            let locks: Locks<LockFree<&H>> = Locks::new(rt, story.number, story.room)?;
-            if let Some(row) = first_row(rt, &locks, *are_poisoned, story)? {
-                return Ok(Some((story.name, row)));
-            }
-        }
-    }
-    Ok(None)
-}
-
-#[test]
-fn stories_are_told(rt: HostRuntime) {
-    same!(rt; first_threaded(&rt).ok(), Some(None));
-    same!(rt; first_lock_free(&rt).ok(), Some(None));
-}
+/// A story of which a row is wrong: it is found.
+pub(crate) const WRONG: &str = "\
+locks 1 0
+lock -> 1; count; await 2; t2 await 1; t2 try_lock -> 1; t2 count
+";

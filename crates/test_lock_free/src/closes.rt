@@ -1,15 +1,15 @@
-//! Forms that are closed with a receipt: the words are those of what was out, and no place has an answer. They are made in each way.
+//! Forms that are closed with a receipt: the words are those of what was out, and no place has an answer.
 
 ghost use Rattle.std.specs.Prelude.{IfSome};
 ghost use Rattle.saa_word_threads.specs.Locks.{table_of};
 ghost use Rattle.saa_word_threads.specs.Receipts.{IsReceiptAt};
 
 use saa_core_waits::spin_policy::NONE;
-use saa_word_lock_free::Receipt;
 use saa_word_lock_free::laws::turns;
 use saa_word_lock_free::lock::Lock;
 use saa_word_lock_free::lock_api::{Guard, Mutex, RwLock, close, join_receipt};
-use saa_word_lock_free::semaphore::{Semaphore, SemaphoreOf};
+use saa_word_lock_free::semaphore::SemaphoreOf;
+use saa_word_lock_free::{Receipt, Words};
 use std::alloc::{AllocError, AllocGlobal};
 use std::sync::Wait;
 use std::test::Fail;
@@ -19,41 +19,32 @@ use test_asserts::same;
 // The main word, and the answers of two places and of none.
 type Shown = (u64, [Option<u64>; 3]);
 
-// 3 of 63 are out; a call had waited.
+fn shown(words: &Words) -> Shown {
+    let answers = [words.answer(0), words.answer(1), words.answer(2)];
+    (words.main(), answers)
+}
+
+// 4 of 9 are withheld, and 3 are out; a call had waited.
 fn semaphore_closed<H: Wait + Clock + AllocGlobal>(
     rt: &H,
 ) -> Result<(bool, u16, Shown), AllocError> {
-    let semaphore = Semaphore::new(rt, rt.alloc(), 2)?;
+    let semaphore = SemaphoreOf::<&H, 9>::with_spin_policy(rt, rt.alloc(), 5, 2, NONE)?;
     let is_taken = semaphore.try_acquire_many(3);
-    let told = semaphore.acquire_many_sync_for(63, Duration::from_millis(1));
+    let answer = semaphore.acquire_many_sync_for(9, Duration::from_millis(1));
     let (available, receipt) = semaphore.available_permits_witnessed();
     let words = semaphore.close(receipt);
-    let answers = [words.answer(0), words.answer(1), words.answer(2)];
-    Ok((
-        is_taken && told == Ok(None),
-        available,
-        (words.main(), answers),
-    ))
-}
-
-// 7 of 9 are withheld, and one is out.
-fn withheld<H: Wait + AllocGlobal>(rt: &H) -> Result<(bool, Option<u64>, u64), AllocError> {
-    let semaphore = SemaphoreOf::<&H, 9>::with_spin_policy(rt, rt.alloc(), 2, 0, NONE)?;
-    let (is_granted, receipt) = semaphore.try_acquire_many_witnessed(1);
-    let words = semaphore.close(receipt);
-    Ok((is_granted, words.answer(0), words.main()))
+    Ok((is_taken && answer == Ok(None), available, shown(&words)))
 }
 
 // A share is out; a call had waited.
 fn lock_closed<H: Wait + Clock + AllocGlobal>(rt: &H) -> Result<(bool, Shown), AllocError> {
     let lock = Lock::with_spin_policy(rt, rt.alloc(), 2, NONE)?;
     let is_taken = lock.lock_sync();
-    let told = lock.share_sync_for(Duration::from_millis(1));
+    let answer = lock.share_sync_for(Duration::from_millis(1));
     let (is_ended, receipt) = lock.downgrade_witnessed();
     let words = lock.close(receipt);
-    let answers = [words.answer(0), words.answer(1), words.answer(2)];
-    let is_right = is_taken == Ok(true) && told == Ok(None) && is_ended;
-    Ok((is_right, (words.main(), answers)))
+    let is_right = is_taken == Ok(true) && answer == Ok(None) && is_ended;
+    Ok((is_right, shown(&words)))
 }
 
 // Adds to the value of a mutex, and keeps the receipt of that turn.
@@ -75,8 +66,7 @@ fn mutex_closed<H: Wait + AllocGlobal>(rt: &H) -> Result<Option<(u64, Shown)>, A
     let mut receipt = first;
     join_receipt(&mutex, &mut receipt, second);
     let (value, words) = close(mutex, receipt);
-    let answers = [words.answer(0), words.answer(1), words.answer(2)];
-    Ok(Some((value, (words.main(), answers))))
+    Ok(Some((value, shown(&words))))
 }
 
 // Reads the value of a writer's guard that was lowered, and keeps the receipt of its share.
@@ -103,8 +93,7 @@ const NO_ANSWERS: [Option<u64>; 3] = [Some(0), Some(0), None];
 
 #[test]
 fn closes_with_a_receipt(rt: HostRuntime) -> Result<(), Fail> {
-    same!(rt; semaphore_closed(&rt)?, (true, 60, (3, NO_ANSWERS)));
-    same!(rt; withheld(&rt)?, (true, None, 8));
+    same!(rt; semaphore_closed(&rt)?, (true, 2, (7, NO_ANSWERS)));
     same!(rt; lock_closed(&rt)?, (true, (1, NO_ANSWERS)));
     same!(rt; mutex_closed(&rt)?, Some((12, (0, NO_ANSWERS))));
     same!(rt; rw_lock_closed(&rt)?, Some((3, 3, 0)));

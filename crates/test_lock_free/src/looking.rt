@@ -4,12 +4,11 @@ use saa_core_waits::Pager;
 use saa_core_waits::spin_policy::SpinPolicy;
 use saa_word_lock_free::Full;
 use saa_word_lock_free::semaphore::Semaphore;
-use std::alloc::{AllocError, AllocGlobal};
 use std::sync::Wait;
 use std::sync::atomic::AtomicU64;
 use std::sync::atomic::Ordering::SeqCst;
 use std::test::Fail;
-use std::thread::{self, Threads, yield_now};
+use std::thread::{self, yield_now};
 use test_asserts::same;
 
 // A place looks for longer than any test lasts.
@@ -45,17 +44,11 @@ fn give<R: Wait + Drop>(rt: &impl Wait, semaphore: &Semaphore<R>) -> bool {
     semaphore.release()
 }
 
-// How often the callback ran, whether the permit was given back, and how many are available in the end.
-fn told<H: Wait + Threads + Sync + AllocGlobal>(
-    rt: &H,
-) -> Result<((u64, bool), usize), AllocError> {
-    let semaphore = Semaphore::with_spin_policy(rt, rt.alloc(), 0, 1, ENDLESS)?;
-    let told = thread::join(rt, || take(rt, &semaphore), || give(rt, &semaphore));
-    Ok((told, semaphore.available_permits(SeqCst)))
-}
-
 #[test]
 fn no_callback_runs_where_a_call_is_granted_while_it_looks(rt: HostRuntime) -> Result<(), Fail> {
-    same!(rt; told(&rt)?, ((0, true), 0));
+    let semaphore = Semaphore::with_spin_policy(&rt, rt.alloc(), 0, 1, ENDLESS)?;
+    let both = thread::join(&rt, || take(&rt, &semaphore), || give(&rt, &semaphore));
+    same!(rt; both, (0, true));
+    same!(rt; semaphore.available_permits(SeqCst), 0);
     Ok(())
 }
