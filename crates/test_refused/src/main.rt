@@ -6,7 +6,6 @@
 
 mod awaited;
 mod came;
-mod forms;
 mod journalled;
 mod made;
 mod watch;

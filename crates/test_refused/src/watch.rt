@@ -1,4 +1,4 @@
-//! A future whose polls are counted, so that its waits are seen; and that is polled once more while it waits.
+//! A future whose polls are counted, so that another thread knows when its task sleeps; and that is polled once more while it waits.
 
 use futures::Future;
 use futures::executor::block_on;
@@ -12,17 +12,14 @@ use std::thread::yield_now;
 // How often a future that waits is polled before its task sleeps: the first poll asks for another one, as one does that gets no waker.
 const WAITING: u64 = 2;
 
-// How often another thread yields once the task is about to sleep: one that doesn't sleep polls again meanwhile. A yield may take a slice
-// of each task that shares the processor.
+// How often another thread yields once the task is about to sleep, so that it sleeps.
 const RESTS: u32 = 20;
 
-/// What is counted of one wait.
+/// What is seen of one wait.
 #[derive(Drop)]
 pub struct Watch {
     // How often the future's poll has returned.
     polls: AtomicU64,
-    // How often it has called back that it joined the queue.
-    joins: AtomicU64,
     // Whether another thread has what is awaited.
     is_held: AtomicBool,
 }
@@ -52,11 +49,10 @@ impl<F: Future> Future for Counted<'_, F> {
 }
 
 impl Watch {
-    /// Nothing has been counted.
+    /// Nothing has been seen.
     pub fn new() -> Watch {
         Watch {
             polls: AtomicU64::new(0),
-            joins: AtomicU64::new(0),
             is_held: AtomicBool::new(false),
         }
     }
@@ -76,12 +72,7 @@ impl Watch {
         }
     }
 
-    /// The future has joined the queue; for a callback.
-    pub fn join(&self) {
-        self.joins.fetch_add(1, Ordering::SeqCst);
-    }
-
-    /// Awaits a future; nothing where `block_on` was refused.
+    /// Awaits a future; nothing if `block_on` was refused.
     pub fn awaited<R, F>(&self, rt: &R, inner: F) -> Option<F::Output>
     where
         R: RandomSource + AllocGlobal + Wait,
@@ -103,16 +94,5 @@ impl Watch {
         for _rest in 0..RESTS {
             yield_now();
         }
-    }
-
-    /// Whether the future was ready at its first poll.
-    pub fn was_ready(&self) -> bool {
-        self.polls.load(Ordering::SeqCst) == 1
-    }
-
-    /// Whether the future waited, was polled again only where it was woken, and called back so often.
-    pub fn was_woken(&self, joins: u64) -> bool {
-        self.polls.load(Ordering::SeqCst) == WAITING + 1
-            && self.joins.load(Ordering::SeqCst) == joins
     }
 }
