@@ -3,8 +3,7 @@
 //! A wait takes no memory, nor does a waker, which is one more owner of what `block_on` has made: only `block_on` itself can be refused, and then the
 //! future is awaited anew. `scripts/refuse_everything` sees that each row takes as much as a future that is ready.
 
-use crate::anew;
-use crate::came::{Came, anew_if, only_if, row};
+use crate::outcome::{Outcome, anew_if, only_if, row};
 use crate::watch::Watch;
 use futures::future::ready;
 use saa_sync::gate::{Gate, State};
@@ -50,8 +49,11 @@ pub fn rows<R: Runtime + RandomSource + AllocGlobal + Threads + Wait + Sync>(
     alloc: Global,
 ) -> io::Result<()> {
     row(rt, "what is ready awaited", ready_awaited(rt))?;
-    let (forms, came) = anew!(new_forms(rt, alloc));
-    row(rt, "all forms", came)?;
+    let (forms, outcome) = match new_forms(rt, alloc) {
+        Ok(forms) => (forms, Outcome::AtOnce),
+        Err(_) => (new_forms(rt, alloc)?, Outcome::Anew),
+    };
+    row(rt, "all forms", outcome)?;
     rows_of(rt, &forms)
 }
 
@@ -76,7 +78,7 @@ fn rows_of<R: Runtime + RandomSource + AllocGlobal + Threads + Wait + Sync>(
 }
 
 // Awaits what is ready at once: all memory is `block_on`'s.
-fn ready_awaited<R: RandomSource + AllocGlobal + Wait>(rt: &R) -> Came {
+fn ready_awaited<R: RandomSource + AllocGlobal + Wait>(rt: &R) -> Outcome {
     let watch = Watch::new();
     match watch.awaited(rt, ready(5u32)) {
         Some(answer) => only_if(answer == 5),
@@ -89,9 +91,9 @@ fn contended<R: RandomSource + AllocGlobal + Threads + Wait + Sync>(
     rt: &R,
     forms: &Forms<'_, R>,
     what: What,
-) -> Came {
+) -> Outcome {
     let watch = Watch::new();
-    let (came, is_let_go) = thread::join(
+    let (outcome, is_let_go) = thread::join(
         rt,
         || {
             watch.await_held(rt);
@@ -99,7 +101,7 @@ fn contended<R: RandomSource + AllocGlobal + Threads + Wait + Sync>(
         },
         || lets_go(rt, forms, what, &watch),
     );
-    came.and(only_if(is_let_go))
+    outcome.and(only_if(is_let_go))
 }
 
 // Has what is awaited until the task that awaits it sleeps, and lets it go then. Whether one task was let in.
@@ -123,7 +125,7 @@ fn awaited<R: RandomSource + AllocGlobal + Wait>(
     forms: &Forms<'_, R>,
     what: What,
     watch: &Watch,
-) -> Came {
+) -> Outcome {
     if matches!(what, What::Pager) {
         return paged(rt, forms, watch);
     }
@@ -156,10 +158,10 @@ fn paged<R: RandomSource + AllocGlobal + Wait>(
     rt: &R,
     forms: &Forms<'_, R>,
     watch: &Watch,
-) -> Came {
+) -> Outcome {
     let mut pager = Pager::new();
     if forms.semaphore.register_pager(&mut pager, 1, false) != Ok(true) {
-        return Came::Wrong;
+        return Outcome::Wrong;
     }
     match watch.awaited(rt, pager.poll_async()) {
         Some(answer) => only_if(answer == Ok(())),

@@ -6,7 +6,7 @@ ghost use Rattle.std.specs.Prelude.{◌≡◌, replicate};
 ghost use Rattle.saa_core.specs.declared.ticket.Registration.TheVariants.{Unregistered};
 ghost use Rattle.saa_core.specs.Tickets.{object_of};
 
-use crate::came::{Came, anew_if};
+use crate::outcome::{Outcome, anew_if};
 use saa_core::semaphore::{SemaphoreCall, SemaphoreCore};
 use saa_core_bench::bench::CommandOf;
 use saa_core_bench::journal::{Journal, Journalled, Share};
@@ -16,17 +16,17 @@ use std::marker::Brand;
 use std::rt::Runtime;
 use std::sync::ledger::Blank;
 
-/// Makes a journal and twenty calls under it, anew where making it was refused, and prints a line.
+/// Makes a journal and twenty calls under it, anew if making it was refused, and prints a line.
 pub fn rows<R: Runtime>(rt: &R, alloc: Global) -> io::Result<()> {
-    let came = match made(alloc) {
-        Ok(came) => came,
-        Err(_) => Came::Anew.and(made(alloc)?),
+    let outcome = match made(alloc) {
+        Ok(outcome) => outcome,
+        Err(_) => Outcome::Anew.and(made(alloc)?),
     };
-    println!(rt; "20 calls under a journal: {came}")
+    println!(rt; "20 calls under a journal: {outcome}")
 }
 
 // Makes a core, and twenty calls of it under a journal.
-fn made(alloc: Global) -> Result<Came, AllocError> {
+fn made(alloc: Global) -> Result<Outcome, AllocError> {
     let core = SemaphoreCore::new(alloc, 4)?;
     twenty_calls::<Brand>(alloc, core, Blank::new(1))
 }
@@ -36,7 +36,7 @@ fn twenty_calls<J: Journal>(
     alloc: Global,
     core: SemaphoreCore,
     blank: Blank,
-) -> Result<Came, AllocError>
+) -> Result<Outcome, AllocError>
     requires name { blank.name ≡ J.name }
     requires parts { blank.parts ≡ J.parts }
     requires one_each { J.dealt ≡ J.parts }
@@ -46,22 +46,25 @@ fn twenty_calls<J: Journal>(
     let (mut journal, mut shares) = Journalled::<SemaphoreCore, J>::new(alloc, core, 2, blank, 1)?;
     match shares.pop() {
         Some(mut share) => Ok(all_made(&mut journal, &mut share)),
-        None => Ok(Came::Wrong),
+        None => Ok(Outcome::Wrong),
     }
 }
 
-// Makes the calls: what came of them, and wrong if they aren't twenty.
-fn all_made<J: Journal>(journal: &mut Journalled<SemaphoreCore, J>, share: &mut Share<J>) -> Came {
-    let mut came = Came::AtOnce;
+// Makes the calls: the outcome of all, which is wrong if they aren't twenty.
+fn all_made<J: Journal>(
+    journal: &mut Journalled<SemaphoreCore, J>,
+    share: &mut Share<J>,
+) -> Outcome {
+    let mut outcome = Outcome::AtOnce;
     for _call in 0..20 {
         if !is_made(journal, share) {
-            came = came.and(anew_if(is_made(journal, share)));
+            outcome = outcome.and(anew_if(is_made(journal, share)));
         }
     }
     if journal.history().len() == 20 && share.calls() == 20 {
-        came
+        outcome
     } else {
-        Came::Wrong
+        Outcome::Wrong
     }
 }
 

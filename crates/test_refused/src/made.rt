@@ -1,7 +1,6 @@
 //! Cores, benches, machines, and the forms that threads share: if memory is refused nothing is made.
 
-use crate::anew;
-use crate::came::{Came, anew_if, only_if, row};
+use crate::outcome::{Outcome, anew_if, only_if, row};
 use saa_core::barrier::BarrierCore;
 use saa_core::gate::GateCore;
 use saa_core::lock::LockCore;
@@ -26,24 +25,31 @@ use std::sync::{Arc, Wait};
 ///
 /// The value behind a lock is dropped if nothing is made, and with what is made: one owner is left.
 pub fn rows<R: Runtime + Wait>(rt: &R, alloc: Global) -> io::Result<()> {
-    let (value, came) = anew!(Arc::new(alloc, 5u32));
-    row(rt, "a value with several owners", came)?;
+    let (value, outcome) = match Arc::new(alloc, 5u32) {
+        Ok(value) => (value, Outcome::AtOnce),
+        Err(_) => (Arc::new(alloc, 5u32)?, Outcome::Anew),
+    };
+    row(rt, "a value with several owners", outcome)?;
     rows_with(rt, alloc, &value)
 }
 
 // The same with this value.
 fn rows_with<R: Runtime + Wait>(rt: &R, alloc: Global, value: &Arc<u32>) -> io::Result<()> {
     for index in 0..19 {
-        let (name, came) = made(rt, alloc, index, value);
-        row(rt, name, came.and(only_if(Arc::strong_count(value) == 1)))?;
+        let (name, outcome) = made(rt, alloc, index, value);
+        row(
+            rt,
+            name,
+            outcome.and(only_if(Arc::strong_count(value) == 1)),
+        )?;
     }
     Ok(())
 }
 
-// Makes the one of this number, anew if it was refused: its name, and what came of it.
-fn made<R: Wait>(rt: &R, alloc: Global, index: u8, value: &Arc<u32>) -> (&'static str, Came) {
+// Makes the one of this number, anew if it was refused: its name, and the outcome.
+fn made<R: Wait>(rt: &R, alloc: Global, index: u8, value: &Arc<u32>) -> (&'static str, Outcome) {
     match made_once(rt, alloc, index, value) {
-        (name, true) => (name, Came::AtOnce),
+        (name, true) => (name, Outcome::AtOnce),
         (name, false) => (name, anew_if(made_once(rt, alloc, index, value).1)),
     }
 }

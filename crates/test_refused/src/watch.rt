@@ -6,10 +6,10 @@ use futures::task::{Context, Poll};
 use std::alloc::AllocGlobal;
 use std::random::RandomSource;
 use std::sync::Wait;
-use std::sync::atomic::{AtomicBool, AtomicU64, Ordering};
+use std::sync::atomic::{AtomicU64, Ordering};
 use std::thread::yield_now;
 
-// How often a future that waits is polled before its task sleeps: the first poll asks for another one, as one does that gets no waker.
+// How often a future that waits is polled before its task sleeps: the first poll wakes its task, as one does that gets no waker.
 const WAITING: u64 = 2;
 
 // How often another thread yields once the task is about to sleep, so that it sleeps.
@@ -20,11 +20,11 @@ const RESTS: u32 = 20;
 pub struct Watch {
     // How often the future's poll has returned.
     polls: AtomicU64,
-    // Whether another thread has what is awaited.
-    is_held: AtomicBool,
+    // How many other threads have what is awaited.
+    holders: AtomicU64,
 }
 
-// A future whose polls are counted. The first poll that stays pending asks for another one at once.
+// A future whose polls are counted. The first poll that stays pending wakes its task at once.
 #[derive(Drop)]
 struct Counted<'c, F> {
     inner: F,
@@ -53,23 +53,18 @@ impl Watch {
     pub fn new() -> Watch {
         Watch {
             polls: AtomicU64::new(0),
-            is_held: AtomicBool::new(false),
+            holders: AtomicU64::new(0),
         }
     }
 
     /// Another thread has what is awaited.
     pub fn hold(&self) {
-        self.is_held.store(true, Ordering::SeqCst);
+        self.holders.store(1, Ordering::SeqCst);
     }
 
     /// Waits until another thread has what is to be awaited.
     pub fn await_held<R: Wait>(&self, rt: &R) {
-        for _ in rt.forever() {
-            if self.is_held.load(Ordering::SeqCst) {
-                return;
-            }
-            yield_now();
-        }
+        await_count(rt, &self.holders, 1);
     }
 
     /// Awaits a future; nothing if `block_on` was refused.
@@ -85,14 +80,19 @@ impl Watch {
 
     /// Waits until the future has been polled for the last time before its task sleeps, and then for a while.
     pub fn await_asleep<R: Wait>(&self, rt: &R) {
-        for _ in rt.forever() {
-            if self.polls.load(Ordering::SeqCst) >= WAITING {
-                break;
-            }
-            yield_now();
-        }
+        await_count(rt, &self.polls, WAITING);
         for _rest in 0..RESTS {
             yield_now();
         }
+    }
+}
+
+// Waits until a count is at least this.
+fn await_count<R: Wait>(rt: &R, count: &AtomicU64, least: u64) {
+    for _ in rt.forever() {
+        if count.load(Ordering::SeqCst) >= least {
+            return;
+        }
+        yield_now();
     }
 }

@@ -2,11 +2,11 @@
 
 /// Of a semaphore.
 pub(crate) const SEMAPHORES: &str = "\
-# Place 0 waits for 10 permits. Place 1 gives 5 back and is about to publish; then place 2 gives 5 back in place, and place 1 grants for both.
+# Place 0 waits for 10 permits. Place 1 gives 5 back and is about to publish; then place 2 may take none of them, and gives 5 back in place, and place 1
+# grants for both.
 semaphore 0 3
-1 try 63: ask ask 63/0/0/0 true; 0 reg 10: ask prepare join 63/0/0/1 true
-1 release 5: release release 58/1/0/1 walk walk walk publish; 2 release 5: release release 53/1/0/1 true
-1: publish walk walk walk publish 63/0/0/0 show show true idle; 0 try_poll: take granted
+1 try 63: ask ask 63/0/0/0 true; 0 reg 10: ask prepare join 63/0/0/1 true; 1 release 5: release release 58/1/0/1 walk walk walk publish
+2 try 1: ask false; 2 release 5: release release 53/1/0/1 true; 1: publish walk walk walk publish 63/0/0/0 show show true idle; 0 try_poll: take granted
 
 # A waiter is shown nothing until the release that grants it takes its last step, and a try of another place can't move it on.
 semaphore 63 3
@@ -37,11 +37,6 @@ bounded 65535 0 2
 # The last of all places that there can be waits, and is granted.
 semaphore 63 65535
 65534 reg 1: .. 63/0/0/65535 true; 0 release 1: .. 63/0/0/0 true; 65534 poll: .. granted
-
-# Each place waits for the only permit. The one in the middle leaves, and the waiter after it is next.
-bounded 1 0 4
-3 try 1: .. 1/0/0/0 true; 0 reg 1: .. 1/0/0/1 true; 1 reg 1: .. 1/0/0/2 true; 2 reg 1: .. 1/0/0/3 true; 1 cancel: .. done
-1 release 1: .. true; 0 try_poll: .. granted; 0 release 1: .. 1/0/0/0 true; 2 poll: .. granted
 
 # A shut empties the queue by one exchange and keeps what is out; then each waiter is shown that.
 semaphore 60 3

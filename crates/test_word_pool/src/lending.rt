@@ -67,7 +67,7 @@ fn the_one_that_is_given_back_is_taken(rt: HostRuntime) -> Result<(), Fail> {
     Ok(())
 }
 
-// Takes and gives so often, and counts how often another thread had the same number.
+// Takes and gives 2,000 times, and counts how often another thread had the same number.
 fn clashes<R: Wait>(rt: &R, pool: &Numbers, in_use: &[AtomicBool]) -> u32 {
     let mut clashes = 0u32;
     for _turn in 0..2000 {
