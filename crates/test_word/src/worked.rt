@@ -18,6 +18,11 @@ semaphore 3 2
 0: idle; 1: idle; 0 try 60: ask; 0 try 0: busy; 0 reg 1: busy; 0 release 64: busy; 0 try_poll: busy; 0 poll: busy; 0 available: busy
 0: ask; 0 available: busy; 1: idle; 0: 63/0/0/0 true idle; 1 available: ask 0
 
+# An exchange that finds another word goes on from that word: of a try, a join, and a release.
+semaphore 60 4
+0 try 1: ask ask; 1 try 1: ask ask 61/0/0/0 true; 0: ask 62/0/0/0 true; 0 reg 5: ask prepare join; 1 reg 5: ask prepare join 62/0/0/2 true
+0: prepare join 62/0/0/1 true; 2 release 1: release release; 3 release 1: release release 61/1/0/1 walk; 2: release 60/1/0/1 true
+
 # Place 2 leaves the queue as its tail. Then place 0 leaves, by which place 1 is granted; place 1 gives that up, waits until it is shown, and gives 2
 # back.
 semaphore 60 3
