@@ -3,8 +3,6 @@
 //! What the names do is shown by other tests. Names that several modules of `saa` have are passed on in as many modules here.
 #![tactic(auto)]
 
-pub mod dealt;
-
 pub use saa::{
     AcquireError, Barrier, Full, Gate, Guard, Lock, Lowers, Mutex, MutexGuard, Pager, Permit,
     PermitOf, RwLock, RwLockReadGuard, RwLockWriteGuard, Semaphore, SemaphoreOf, TryLockError,
@@ -63,13 +61,33 @@ pub mod cores {
     pub use saa::words::word::Word;
 }
 
-/// The word forms.
+/// The word forms; and contracts of calls at places that a form dealt, by definitions that `saa` passes on.
 pub mod word {
+    ghost use Rattle.saa.specs.WordLocks.{IsDealtBy as IsDealtByLock};
+    ghost use Rattle.saa.specs.WordSemaphores.{IsDealtBy};
+
     pub use saa::word::{
         Error, Guard, Left, Lock, LockLeft, LockPlace, Lowers, Mode, Mutex, MutexGuard,
         MutexWorker, Place, Receipt, RwLock, RwLockReadGuard, RwLockWorker, RwLockWriteGuard,
         Semaphore, SemaphoreOf, TryLockError, Turn, ValueMut, ValueRef, Visitor, Words, Writing,
     };
+    use std::sync::Wait;
+
+    /// Takes both permits at a place.
+    pub fn is_taken<R: Wait>(rt: &R, semaphore: &SemaphoreOf<2>, place: &mut Place) -> bool
+        requires { IsDealtBy semaphore.now place.old }
+        ensures { IsDealtBy semaphore.now place.new }
+    {
+        semaphore.try_acquire_many(rt, place, 2)
+    }
+
+    /// Takes a share at a place.
+    pub fn is_shared<R: Wait>(rt: &R, lock: &Lock, place: &mut LockPlace) -> bool
+        requires { IsDealtByLock lock.now place.old }
+        ensures { IsDealtByLock lock.now place.new }
+    {
+        lock.try_share(rt, place).is_ok()
+    }
 }
 
 /// The machine of words.

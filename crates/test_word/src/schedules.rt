@@ -157,27 +157,20 @@ impl Played {
         let first = number(words.next());
         let second = number(words.next());
         let third = number(words.next());
-        let (machine, main) = match form {
-            "semaphore" => (
-                Machine::semaphore(alloc, usize::from(first), second)?,
-                first,
-            ),
-            "bounded" => {
-                let machine = Machine::semaphore_of(
-                    alloc,
-                    first.max(1),
-                    usize::from(second),
-                    third,
-                )?;
-                (machine, second)
-            }
-            "lock" => (Machine::lock(alloc, first)?, 0),
+        let main = match form {
+            "semaphore" => first,
+            "bounded" => second,
+            _ => 0,
+        };
+        let withheld = usize::from(main);
+        let machine = match form {
+            "semaphore" => Machine::semaphore(alloc, withheld, second)?,
+            "bounded" => Machine::semaphore_of(alloc, first.max(1), withheld, third)?,
+            "lock" => Machine::lock(alloc, first)?,
             _ => return Ok(None),
         };
-        Ok(Some(Played {
-            machine,
-            main: u64::from(main),
-        }))
+        let main = u64::from(main);
+        Ok(Some(Played { machine, main }))
     }
 
     fn next_kind(&self, me: u16) -> Option<Kind> {

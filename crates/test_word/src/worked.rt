@@ -43,6 +43,11 @@ bounded 65535 0 2
 semaphore 63 65535
 65534 reg 1: .. 63/0/0/65535 true; 0 release 1: .. 63/0/0/0 true; 65534 poll: .. granted
 
+# Each place waits for the only permit. The one in the middle leaves, and the waiter after it is next.
+bounded 1 0 4
+3 try 1: .. 1/0/0/0 true; 0 reg 1: .. 1/0/0/1 true; 1 reg 1: .. 1/0/0/2 true; 2 reg 1: .. 1/0/0/3 true; 1 cancel: .. done
+1 release 1: .. true; 0 try_poll: .. granted; 0 release 1: .. 1/0/0/0 true; 2 poll: .. granted
+
 # A shut empties the queue by one exchange and keeps what is out; then each waiter is shown that.
 semaphore 60 3
 0 reg 10: .. 60/0/0/1 true; 1 reg 2: .. 60/0/0/2 true; 2 is_shut: .. false; 2 shut: poison poison 60/0/1/0 show show show
@@ -78,6 +83,11 @@ lock 3
 0 try_lock: .. 63/0/0/0 ok; 1 reg shared: .. 63/0/0/2 true; 2 reg wait_exclusive: .. 63/0/0/3 true; 1 cancel: flag flag 63/1/0/3 unlink
 0 poison_lock: poison waits; 2 cancel: flag waits; 1: unlink unlink unlink walk publish; 0: waits; 1: 63/0/0/3 done
 0: poison 0/0/1/0 show; 2: take waits; 0: show true; 2: done
+
+# A downgrade takes the flag by the same exchange, and lets a sharer in beside it; the owner after that waits on.
+lock 3
+0 try_lock: .. 63/0/0/0 ok; 1 reg shared: .. 63/0/0/2 true; 2 reg exclusive: .. 63/0/0/3 true; 0 downgrade: release release 1/1/0/3 walk .. publish
+0: .. 2/0/0/3 true; 1 try_poll: .. granted; 2 try_poll: .. not_ready
 
 # A downgrade is made in place while a cancel holds the flag, and the cancel grants the sharer after it.
 lock 3
