@@ -1,24 +1,31 @@
 //! A future of each kind, awaited by `block_on` while another thread has what it asks for, and lets it have that only once its task sleeps.
 //!
-//! The task polls it twice before it sleeps, as where a poll gets no waker and asks for another one, and once when it was woken. So a
-//! future is noticed that is told too soon, that takes another poll for a wake, or that keeps no waker and has its task polled all the
-//! time. A wait takes no memory, nor does a waker, which is one more owner of what `block_on` has made: only `block_on` itself can be
-//! refused, and then the future is awaited anew. `scripts/refuse_everything` sees that each row takes as much as a future that is ready.
+//! A wait takes no memory, nor does a waker, which is one more owner of what `block_on` has made: only `block_on` itself can be refused, and then the
+//! future is awaited anew. `scripts/refuse_everything` sees that each row takes as much as a future that is ready.
 
-use crate::anew;
-use crate::came::{Came, anew_if, only_if, row};
-use crate::forms::{Forms, NEW, What};
+use crate::outcome::{Outcome, anew_if, only_if, row};
 use crate::watch::Watch;
 use futures::future::ready;
-use saa_sync::gate::State;
-use saa_sync::lock_api::lock_async;
+use saa_sync::gate::{Gate, State};
+use saa_sync::lock_api::{Mutex, lock_async};
 use saa_sync::pager::Pager;
-use std::alloc::{AllocGlobal, Global};
+use saa_sync::semaphore::Semaphore;
+use std::alloc::{AllocError, AllocGlobal, Global};
 use std::io;
 use std::random::RandomSource;
 use std::rt::Runtime;
 use std::sync::Wait;
 use std::thread::{self, Threads};
+
+// What is awaited: a future of each kind, since those of all forms are written once.
+#[derive(Clone, Copy)]
+enum What {
+    Permit,
+    // With a callback.
+    Gate,
+    Pager,
+    Mutex,
+}
 
 // What is awaited, in the order of the rows.
 static ROWS: [(&str, What); 4] = [
@@ -28,18 +35,38 @@ static ROWS: [(&str, What); 4] = [
     ("a mutex awaited", What::Mutex),
 ];
 
+// A semaphore of no permit, a gate, and a number behind a mutex.
+#[derive(Drop)]
+struct Forms<'r, R: Wait> {
+    semaphore: Semaphore<&'r R>,
+    gate: Gate<&'r R>,
+    mutex: Mutex<&'r R, u32>,
+}
+
 /// Awaits each, and prints a line for each.
 pub fn rows<R: Runtime + RandomSource + AllocGlobal + Threads + Wait + Sync>(
     rt: &R,
     alloc: Global,
 ) -> io::Result<()> {
     row(rt, "what is ready awaited", ready_awaited(rt))?;
-    let (forms, came) = anew!(Forms::new(rt, alloc));
-    row(rt, "all forms", came)?;
+    let (forms, outcome) = match new_forms(rt, alloc) {
+        Ok(forms) => (forms, Outcome::AtOnce),
+        Err(_) => (new_forms(rt, alloc)?, Outcome::Anew),
+    };
+    row(rt, "all forms", outcome)?;
     rows_of(rt, &forms)
 }
 
-// The same of forms that are made.
+// New forms, with room for 4 each.
+fn new_forms<R: Wait>(rt: &R, alloc: Global) -> Result<Forms<'_, R>, AllocError> {
+    Ok(Forms {
+        semaphore: Semaphore::with_permits(rt, alloc, 0, 4)?,
+        gate: Gate::new(rt, alloc, 4)?,
+        mutex: Mutex::new(rt, alloc, 5u32, 4)?,
+    })
+}
+
+// The rows of forms that are made.
 fn rows_of<R: Runtime + RandomSource + AllocGlobal + Threads + Wait + Sync>(
     rt: &R,
     forms: &Forms<'_, R>,
@@ -51,23 +78,22 @@ fn rows_of<R: Runtime + RandomSource + AllocGlobal + Threads + Wait + Sync>(
 }
 
 // Awaits what is ready at once: all memory is `block_on`'s.
-fn ready_awaited<R: RandomSource + AllocGlobal + Wait>(rt: &R) -> Came {
+fn ready_awaited<R: RandomSource + AllocGlobal + Wait>(rt: &R) -> Outcome {
     let watch = Watch::new();
-    let came = match watch.awaited(rt, ready(5u32)) {
+    match watch.awaited(rt, ready(5u32)) {
         Some(answer) => only_if(answer == 5),
         None => anew_if(watch.awaited(rt, ready(5u32)) == Some(5)),
-    };
-    came.and(only_if(watch.was_ready()))
+    }
 }
 
-// Awaits something in another thread once this one has it, which lets it go once the task there sleeps. Then all is as before.
+// Awaits something in another thread once this one has it, which lets it go once the task there sleeps.
 fn contended<R: RandomSource + AllocGlobal + Threads + Wait + Sync>(
     rt: &R,
     forms: &Forms<'_, R>,
     what: What,
-) -> Came {
+) -> Outcome {
     let watch = Watch::new();
-    let (came, is_let_go) = thread::join(
+    let (outcome, is_let_go) = thread::join(
         rt,
         || {
             watch.await_held(rt);
@@ -75,28 +101,31 @@ fn contended<R: RandomSource + AllocGlobal + Threads + Wait + Sync>(
         },
         || lets_go(rt, forms, what, &watch),
     );
-    let is_given_back = forms.give_back(what);
-    came.and(only_if(is_let_go && is_given_back && watch.was_woken(what.callbacks())))
+    outcome.and(only_if(is_let_go))
 }
 
-// Has what is awaited until the task that awaits it sleeps, and lets it go then. Whether that told what it must.
+// Has what is awaited until the task that awaits it sleeps, and lets it go then. Whether one task was let in.
 fn lets_go<R: Wait>(rt: &R, forms: &Forms<'_, R>, what: What, watch: &Watch) -> bool {
-    let held = forms.held(what);
+    let guard = match what {
+        What::Mutex => forms.mutex.try_lock(),
+        _ => None,
+    };
     watch.hold();
     watch.await_asleep(rt);
-    match held {
-        Some(held) => forms.let_go(what, held),
-        None => false,
+    match what {
+        What::Permit | What::Pager => forms.semaphore.release(),
+        What::Gate => forms.gate.permit() == Ok(1),
+        What::Mutex => guard.is_some(),
     }
 }
 
-// Awaits it, anew where that was refused.
+// Awaits it, anew if that was refused.
 fn awaited<R: RandomSource + AllocGlobal + Wait>(
     rt: &R,
     forms: &Forms<'_, R>,
     what: What,
     watch: &Watch,
-) -> Came {
+) -> Outcome {
     if matches!(what, What::Pager) {
         return paged(rt, forms, watch);
     }
@@ -106,7 +135,7 @@ fn awaited<R: RandomSource + AllocGlobal + Wait>(
     }
 }
 
-// Whether a future is answered as it must be; nothing where it was refused to await it.
+// Whether a future is answered as it must be; nothing if it was refused to await it.
 fn is_answered<R: RandomSource + AllocGlobal + Wait>(
     rt: &R,
     forms: &Forms<'_, R>,
@@ -116,27 +145,23 @@ fn is_answered<R: RandomSource + AllocGlobal + Wait>(
     match what {
         What::Permit => Some(watch.awaited(rt, forms.semaphore.acquire_async())? == Ok(())),
         What::Gate => {
-            let entry = forms.gate.enter_async_with(|| watch.join());
+            let entry = forms.gate.enter_async_with(|| {});
             Some(watch.awaited(rt, entry)? == Ok(Ok(State::Controlled)))
         }
-        // A guard shows what the other wrote.
-        What::Mutex => match watch.awaited(rt, lock_async(&forms.mutex))? {
-            Ok(guard) => Some(*guard == NEW),
-            Err(_full) => Some(false),
-        },
+        What::Mutex => Some(watch.awaited(rt, lock_async(&forms.mutex))?.is_ok()),
         What::Pager => Some(false),
     }
 }
 
-// Registers a pager and polls it until it is answered, anew where that was refused: it stays registered then.
+// Registers a pager and polls it until it is answered, anew if that was refused: it stays registered then.
 fn paged<R: RandomSource + AllocGlobal + Wait>(
     rt: &R,
     forms: &Forms<'_, R>,
     watch: &Watch,
-) -> Came {
+) -> Outcome {
     let mut pager = Pager::new();
     if forms.semaphore.register_pager(&mut pager, 1, false) != Ok(true) {
-        return Came::Wrong;
+        return Outcome::Wrong;
     }
     match watch.awaited(rt, pager.poll_async()) {
         Some(answer) => only_if(answer == Ok(())),

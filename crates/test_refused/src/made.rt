@@ -1,7 +1,6 @@
-//! Cores, benches, machines, and the forms that threads share: where memory is refused nothing is made.
+//! Cores, benches, machines, and the forms that threads share: if memory is refused nothing is made.
 
-use crate::anew;
-use crate::came::{Came, row};
+use crate::outcome::{Outcome, anew_if, only_if, row};
 use saa_core::barrier::BarrierCore;
 use saa_core::gate::GateCore;
 use saa_core::lock::LockCore;
@@ -15,120 +14,91 @@ use saa_sync::semaphore::{Semaphore, SemaphoreOf};
 use saa_word::machine::Machine;
 use saa_word_forms::mutex::Mutex as WordMutex;
 use saa_word_forms::rw_lock::RwLock as WordRwLock;
-use saa_word_threads::lock::{Lock as WordLock, Place};
+use saa_word_threads::lock::Lock as WordLock;
 use saa_word_threads::semaphore::Semaphore as WordSemaphore;
 use std::alloc::{AllocError, Global};
 use std::io;
 use std::rt::Runtime;
 use std::sync::{Arc, Wait};
 
-// What is made.
-#[derive(Clone, Copy)]
-enum What {
-    SemaphoreCore,
-    WideSemaphoreCore,
-    LockCore,
-    GateCore,
-    BarrierCore,
-    Bench,
-    SemaphoreMachine,
-    LockMachine,
-    WordSemaphore,
-    WordLock,
-    Semaphore,
-    WideSemaphore,
-    Lock,
-    Gate,
-    Barrier,
-    Mutex,
-    RwLock,
-    WordMutex,
-    WordRwLock,
-}
-
-// Its name, in the order of the rows.
-static ROWS: [(&str, What); 19] = [
-    ("semaphore core", What::SemaphoreCore),
-    ("wide semaphore core", What::WideSemaphoreCore),
-    ("lock core", What::LockCore),
-    ("gate core", What::GateCore),
-    ("barrier core", What::BarrierCore),
-    ("bench", What::Bench),
-    ("machine of a semaphore", What::SemaphoreMachine),
-    ("machine of a lock", What::LockMachine),
-    ("word semaphore", What::WordSemaphore),
-    ("word lock", What::WordLock),
-    ("semaphore", What::Semaphore),
-    ("wide semaphore", What::WideSemaphore),
-    ("lock", What::Lock),
-    ("gate", What::Gate),
-    ("barrier", What::Barrier),
-    ("mutex", What::Mutex),
-    ("reader-writer lock", What::RwLock),
-    ("word mutex", What::WordMutex),
-    ("word reader-writer lock", What::WordRwLock),
-];
-
 /// Makes each, and prints a line for each.
 ///
-/// The value behind a lock is dropped where nothing is made, and with what is made: one owner is left.
+/// The value behind a lock is dropped if nothing is made, and with what is made: one owner is left.
 pub fn rows<R: Runtime + Wait>(rt: &R, alloc: Global) -> io::Result<()> {
-    let (value, came) = anew!(Arc::new(alloc, 5u32));
-    row(rt, "a value with several owners", came)?;
+    let (value, outcome) = match Arc::new(alloc, 5u32) {
+        Ok(value) => (value, Outcome::AtOnce),
+        Err(_) => (Arc::new(alloc, 5u32)?, Outcome::Anew),
+    };
+    row(rt, "a value with several owners", outcome)?;
     rows_with(rt, alloc, &value)
 }
 
 // The same with this value.
 fn rows_with<R: Runtime + Wait>(rt: &R, alloc: Global, value: &Arc<u32>) -> io::Result<()> {
-    for (name, what) in &ROWS {
-        let came = made(rt, alloc, *what, value);
-        row(rt, name, came.and(if_alone(value)))?;
+    for index in 0..19 {
+        let (name, outcome) = made(rt, alloc, index, value);
+        row(
+            rt,
+            name,
+            outcome.and(only_if(Arc::strong_count(value) == 1)),
+        )?;
     }
     Ok(())
 }
 
-// Wrong where a value has more than one owner.
-fn if_alone(value: &Arc<u32>) -> Came {
-    if Arc::strong_count(value) == 1 {
-        Came::AtOnce
-    } else {
-        Came::Wrong
+// Makes the one of this number, anew if it was refused: its name, and the outcome.
+fn made<R: Wait>(rt: &R, alloc: Global, index: u8, value: &Arc<u32>) -> (&'static str, Outcome) {
+    match made_once(rt, alloc, index, value) {
+        (name, true) => (name, Outcome::AtOnce),
+        (name, false) => (name, anew_if(made_once(rt, alloc, index, value).1)),
     }
 }
 
-// Makes it, anew where it was refused.
-fn made<R: Wait>(rt: &R, alloc: Global, what: What, value: &Arc<u32>) -> Came {
-    if is_made(rt, alloc, what, value) {
-        Came::AtOnce
-    } else if is_made(rt, alloc, what, value) {
-        Came::Anew
-    } else {
-        Came::Wrong
+// The same once: its name, and whether it was made.
+fn made_once<R: Wait>(rt: &R, alloc: Global, index: u8, value: &Arc<u32>) -> (&'static str, bool) {
+    match Arc::try_clone(value) {
+        Ok(owner) => made_with(rt, alloc, index, owner),
+        Err(_) => ("an owner", false),
     }
 }
 
-// Whether it was made, and not refused.
-fn is_made<R: Wait>(rt: &R, alloc: Global, what: What, value: &Arc<u32>) -> bool {
-    match what {
-        What::SemaphoreCore => is_had(SemaphoreCore::new(alloc, 4)),
-        What::WideSemaphoreCore => is_had(SemaphoreCoreOf::<1000>::with_permits(alloc, 5, 4)),
-        What::LockCore => is_had(LockCore::new(alloc, 4)),
-        What::GateCore => is_had(GateCore::new(alloc, 4)),
-        What::BarrierCore => is_had(BarrierCore::with_count(alloc, 3, 4)),
-        What::Bench => is_had(bench(alloc)),
-        What::SemaphoreMachine => is_had(Machine::semaphore(alloc, 7, 3)),
-        What::LockMachine => is_had(Machine::lock(alloc, 3)),
-        What::WordSemaphore => is_had(WordSemaphore::new(alloc, 7, 3)),
-        What::WordLock => is_had(WordLock::new(alloc, 3)),
-        What::Semaphore => is_had(Semaphore::new(rt, alloc, 4)),
-        What::WideSemaphore => is_had(SemaphoreOf::<_, 1000>::with_permits(rt, alloc, 5, 4)),
-        What::Lock => is_had(Lock::new(rt, alloc, 4)),
-        What::Gate => is_had(Gate::new(rt, alloc, 4)),
-        What::Barrier => is_had(Barrier::with_count(rt, alloc, 3, 4)),
-        What::Mutex => is_had(mutex(rt, alloc, value)),
-        What::RwLock => is_had(rwlock(rt, alloc, value)),
-        What::WordMutex => is_had(word_mutex(alloc, value)),
-        What::WordRwLock => is_had(word_rwlock(alloc, value)),
+// The same with this owner of the value.
+fn made_with<R: Wait>(rt: &R, alloc: Global, index: u8, owner: Arc<u32>) -> (&'static str, bool) {
+    match index {
+        0 => ("semaphore core", is_had(SemaphoreCore::new(alloc, 4))),
+        1 => (
+            "wide semaphore core",
+            is_had(SemaphoreCoreOf::<1000>::with_permits(alloc, 5, 4)),
+        ),
+        2 => ("lock core", is_had(LockCore::new(alloc, 4))),
+        3 => ("gate core", is_had(GateCore::new(alloc, 4))),
+        4 => ("barrier core", is_had(BarrierCore::with_count(alloc, 3, 4))),
+        5 => ("bench", is_had(bench(alloc))),
+        6 => (
+            "machine of a semaphore",
+            is_had(Machine::semaphore(alloc, 7, 3)),
+        ),
+        7 => ("machine of a lock", is_had(Machine::lock(alloc, 3))),
+        8 => ("word semaphore", is_had(WordSemaphore::new(alloc, 7, 3))),
+        9 => ("word lock", is_had(WordLock::new(alloc, 3))),
+        10 => ("semaphore", is_had(Semaphore::new(rt, alloc, 4))),
+        11 => (
+            "wide semaphore",
+            is_had(SemaphoreOf::<_, 1000>::with_permits(rt, alloc, 5, 4)),
+        ),
+        12 => ("lock", is_had(Lock::new(rt, alloc, 4))),
+        13 => ("gate", is_had(Gate::new(rt, alloc, 4))),
+        14 => ("barrier", is_had(Barrier::with_count(rt, alloc, 3, 4))),
+        15 => ("mutex", is_had(Mutex::new(rt, alloc, owner, 4))),
+        16 => (
+            "reader-writer lock",
+            is_had(RwLock::new(rt, alloc, owner, 4)),
+        ),
+        17 => ("word mutex", is_had(WordMutex::new(alloc, owner, 3))),
+        _ => (
+            "word reader-writer lock",
+            is_had(WordRwLock::new(alloc, owner, 3)),
+        ),
     }
 }
 
@@ -139,34 +109,4 @@ fn is_had<T: Drop>(made: Result<T, AllocError>) -> bool {
 
 fn bench(alloc: Global) -> Result<Bench<SemaphoreCore>, AllocError> {
     Bench::new(alloc, SemaphoreCore::new(alloc, 4)?, 3)
-}
-
-fn mutex<'a, R: Wait>(
-    rt: &'a R,
-    alloc: Global,
-    value: &Arc<u32>,
-) -> Result<Mutex<&'a R, Arc<u32>>, AllocError> {
-    Mutex::new(rt, alloc, Arc::try_clone(value)?, 4)
-}
-
-fn rwlock<'a, R: Wait>(
-    rt: &'a R,
-    alloc: Global,
-    value: &Arc<u32>,
-) -> Result<RwLock<&'a R, Arc<u32>>, AllocError> {
-    RwLock::new(rt, alloc, Arc::try_clone(value)?, 4)
-}
-
-fn word_mutex(
-    alloc: Global,
-    value: &Arc<u32>,
-) -> Result<(WordMutex<Arc<u32>>, Vec<Place>), AllocError> {
-    WordMutex::new(alloc, Arc::try_clone(value)?, 3)
-}
-
-fn word_rwlock(
-    alloc: Global,
-    value: &Arc<u32>,
-) -> Result<(WordRwLock<Arc<u32>>, Vec<Place>), AllocError> {
-    WordRwLock::new(alloc, Arc::try_clone(value)?, 3)
 }

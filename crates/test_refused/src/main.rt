@@ -1,14 +1,13 @@
-//! Everything that takes memory, done once; where memory is refused it is done again, and what came of it is printed.
+//! Everything that takes memory, done once; if memory is refused it is done again, and the outcome is printed.
 //!
-//! With a number as its argument the program first takes and gives back memory so often. So a run in which one allocation of a fixed number
+//! With a number as its argument the program first takes and gives back memory that many times. So a run in which one allocation of a fixed number
 //! is refused meets another one by each argument: `scripts/refuse_everything` runs it by all of them, and compares what is printed.
 #![tactic(auto)]
 
 mod awaited;
-mod came;
-mod forms;
 mod journalled;
 mod made;
+mod outcome;
 mod watch;
 
 use std::alloc::Global;
@@ -28,7 +27,7 @@ fn main(rt: HostRuntime) -> io::Result<()> {
     awaited::rows(&rt, rt.alloc())
 }
 
-// How often memory is to be taken first; none where memory for the arguments was refused.
+// How often memory is to be taken first; none if memory for the arguments was refused.
 fn wanted<E: env::Env>(environment: &E, alloc: Global) -> Option<u32> {
     let mut count = 0;
     for word in env::args(&(environment, alloc)).ok()?.skip(1) {
@@ -37,7 +36,7 @@ fn wanted<E: env::Env>(environment: &E, alloc: Global) -> Option<u32> {
     Some(count)
 }
 
-// Takes memory and gives it back so often; none where it was refused.
+// Takes memory and gives it back, as often as this; none if it was refused.
 fn waste(alloc: Global, count: u32) -> Option<u32> {
     for _turn in 0..count {
         let mut bytes = Vec::new(alloc);

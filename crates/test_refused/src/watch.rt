@@ -1,4 +1,4 @@
-//! A future whose polls are counted, so that its waits are seen; and that is polled once more while it waits.
+//! A future whose polls are counted, so that another thread knows when its task sleeps; and that is polled once more while it waits.
 
 use futures::Future;
 use futures::executor::block_on;
@@ -6,28 +6,25 @@ use futures::task::{Context, Poll};
 use std::alloc::AllocGlobal;
 use std::random::RandomSource;
 use std::sync::Wait;
-use std::sync::atomic::{AtomicBool, AtomicU64, Ordering};
+use std::sync::atomic::{AtomicU64, Ordering};
 use std::thread::yield_now;
 
-// How often a future that waits is polled before its task sleeps: the first poll asks for another one, as one does that gets no waker.
+// How often a future that waits is polled before its task sleeps: the first poll wakes its task, as one does that gets no waker.
 const WAITING: u64 = 2;
 
-// How often another thread yields once the task is about to sleep: one that doesn't sleep polls again meanwhile. A yield may take a slice
-// of each task that shares the processor.
+// How often another thread yields once the task is about to sleep, so that it sleeps.
 const RESTS: u32 = 20;
 
-/// What is counted of one wait.
+/// What is seen of one wait.
 #[derive(Drop)]
 pub struct Watch {
     // How often the future's poll has returned.
     polls: AtomicU64,
-    // How often it has called back that it joined the queue.
-    joins: AtomicU64,
-    // Whether another thread has what is awaited.
-    is_held: AtomicBool,
+    // How many other threads have what is awaited.
+    holders: AtomicU64,
 }
 
-// A future whose polls are counted. The first poll that stays pending asks for another one at once.
+// A future whose polls are counted. The first poll that stays pending wakes its task at once.
 #[derive(Drop)]
 struct Counted<'c, F> {
     inner: F,
@@ -52,36 +49,25 @@ impl<F: Future> Future for Counted<'_, F> {
 }
 
 impl Watch {
-    /// Nothing has been counted.
+    /// Nothing has been seen.
     pub fn new() -> Watch {
         Watch {
             polls: AtomicU64::new(0),
-            joins: AtomicU64::new(0),
-            is_held: AtomicBool::new(false),
+            holders: AtomicU64::new(0),
         }
     }
 
     /// Another thread has what is awaited.
     pub fn hold(&self) {
-        self.is_held.store(true, Ordering::SeqCst);
+        self.holders.store(1, Ordering::SeqCst);
     }
 
     /// Waits until another thread has what is to be awaited.
     pub fn await_held<R: Wait>(&self, rt: &R) {
-        for _ in rt.forever() {
-            if self.is_held.load(Ordering::SeqCst) {
-                return;
-            }
-            yield_now();
-        }
+        await_count(rt, &self.holders, 1);
     }
 
-    /// The future has joined the queue; for a callback.
-    pub fn join(&self) {
-        self.joins.fetch_add(1, Ordering::SeqCst);
-    }
-
-    /// Awaits a future; nothing where `block_on` was refused.
+    /// Awaits a future; nothing if `block_on` was refused.
     pub fn awaited<R, F>(&self, rt: &R, inner: F) -> Option<F::Output>
     where
         R: RandomSource + AllocGlobal + Wait,
@@ -94,25 +80,19 @@ impl Watch {
 
     /// Waits until the future has been polled for the last time before its task sleeps, and then for a while.
     pub fn await_asleep<R: Wait>(&self, rt: &R) {
-        for _ in rt.forever() {
-            if self.polls.load(Ordering::SeqCst) >= WAITING {
-                break;
-            }
-            yield_now();
-        }
+        await_count(rt, &self.polls, WAITING);
         for _rest in 0..RESTS {
             yield_now();
         }
     }
+}
 
-    /// Whether the future was ready at its first poll.
-    pub fn was_ready(&self) -> bool {
-        self.polls.load(Ordering::SeqCst) == 1
-    }
-
-    /// Whether the future waited, was polled again only where it was woken, and called back so often.
-    pub fn was_woken(&self, joins: u64) -> bool {
-        self.polls.load(Ordering::SeqCst) == WAITING + 1
-            && self.joins.load(Ordering::SeqCst) == joins
+// Waits until a count is at least this.
+fn await_count<R: Wait>(rt: &R, count: &AtomicU64, least: u64) {
+    for _ in rt.forever() {
+        if count.load(Ordering::SeqCst) >= least {
+            return;
+        }
+        yield_now();
     }
 }

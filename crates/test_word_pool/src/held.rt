@@ -47,7 +47,7 @@ pub(crate) fn numbers(alloc: Global, count: u16) -> Result<Numbers, AllocError> 
     Pool::new(alloc, values, &())
 }
 
-/// Takes a number out; `None` where all are out.
+/// Takes a number out; `None` if all are out.
 pub(crate) fn take_one<'p, R: Wait>(rt: &R, pool: &'p Numbers) -> Option<Held<'p>> {
     match pool.take(rt) {
         Ok(borrowed) => Some(Held { pool, borrowed }),
