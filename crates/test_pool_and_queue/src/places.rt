@@ -1,4 +1,4 @@
-//! What a pool and a queue answer to the words of a story, and each way to ask.
+//! What a pool and a queue answer to the words of a story, and the ways to wait.
 //!
 //! `check_out`, `push` and `pop` are said in each way: `try_pop`, `pop`, `pop_for 1h`, `pop_until 1h`, `pop_async`; and `pop_by 4` in the way of that turn.
 //! In place of `check_out`, whose guard puts the value back, `keep` keeps it, `replace` has one ten times as large, and `shrink` none. A refused push that
@@ -17,7 +17,7 @@ use std::time::{Clock, Duration, Instant};
 use test_language::language::Call;
 use test_language::reply::{Replies, Reply, ReplyWord, number, unknown, word};
 
-/// A way to ask.
+/// A way to wait, or not to wait.
 #[derive(Clone, Copy, Debug)]
 pub(crate) enum Way {
     Try,

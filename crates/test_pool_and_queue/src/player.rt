@@ -1,7 +1,8 @@
 //! The player: makes the moves of a story at the pool or the queue of its first line, and finds the first row that is answered otherwise.
 //!
 //! `pool MAX ROOM` and `queue MAX ROOM` are first lines. `repeat 500 add` makes the call for each number up to that. `f0 end` ends a future, and answers the
-//! item of a push. `crowd 8 pop 1h push` has eight threads ask one after another, each in the next way that waits; once all sleep, they are let in one by one.
+//! item of a push. `crowd 8 pop 1h push` has eight threads make the call one after another, each in the next way that waits; once all sleep, they
+//! are let in one by one.
 
 ghost use Rattle.std.specs.Prelude.{◌<◌};
 
@@ -167,7 +168,7 @@ fn await_ended<H: Wait>(rt: &H, ended: &AtomicUsize, wanted: usize) {
     }
 }
 
-// One of a crowd, from 1 on, asks once those before it wait: 1 if it is let in after them, with its number, or told of the close.
+// One of a crowd, from 1 on, makes the call once those before it wait: 1 if it is let in after them, with its number, or answered `closed`.
 fn sleep<H, F, T>(rt: &H, place: T, call: &Call<'_>, ended: &AtomicUsize, own: usize) -> usize
 where
     H: Wait,
@@ -212,8 +213,8 @@ where
     wrong
 }
 
-// Tells a story at a place: the first row that is answered otherwise.
-fn told<'t, H, F, T>(rt: &H, place: T, rows: &[Move<'t>]) -> io::Result<Option<Failed<'t>>>
+// Plays a story at a place: the first row that is answered otherwise.
+fn played<'t, H, F, T>(rt: &H, place: T, rows: &[Move<'t>]) -> io::Result<Option<Failed<'t>>>
 where
     H: Wait + Clock + Threads + Sync + RandomSource + AllocGlobal,
     T: Place<H, F> + Sync + Drop,
@@ -240,7 +241,7 @@ where
     requires narrow { MAX < 65536 }
 {
     let pool = Pool::<_, usize, MAX>::new(rt, rt.alloc(), room)?;
-    told(rt, &pool, rows)
+    played(rt, &pool, rows)
 }
 
 fn at_queue<'t, H, const MAX: usize>(
@@ -254,11 +255,11 @@ where
     requires narrow { MAX < 65536 }
 {
     let queue = Queue::<_, usize, MAX>::new(rt, rt.alloc(), room)?;
-    told(rt, &queue, rows)
+    played(rt, &queue, rows)
 }
 
-// Tells a story for this number, at what its first line makes.
-fn told_for<'t, H>(rt: &H, story: &'t str, each: usize) -> io::Result<Option<Failed<'t>>>
+// Plays a story for this number, at what its first line makes.
+fn played_for<'t, H>(rt: &H, story: &'t str, each: usize) -> io::Result<Option<Failed<'t>>>
 where
     H: Wait + Clock + Threads + Sync + RandomSource + AllocGlobal,
 {
@@ -284,7 +285,7 @@ where
 {
     for story in stories.split("\n\n") {
         for each in numbers_of(rt.alloc(), story)? {
-            let failed = told_for(rt, story, each)?;
+            let failed = played_for(rt, story, each)?;
             if failed.is_some() {
                 return Ok(failed);
             }

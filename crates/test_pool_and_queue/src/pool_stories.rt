@@ -54,7 +54,7 @@ add 1; keep -> 1; f0 check_out; f1 check_out; f0 poll a -> pending; f1 poll b ->
 try_check_out -> would_block; f1 poll b -> 1; inside -> 1; waiting -> 0; keep -> 1; f0 check_out; f0 poll a -> pending; f0 drop; waiting -> 0
 give_back 1; try_check_out -> 1
 
-# A close is told to one that waits, one that was let in and not polled, and one that wasn't polled yet.
+# A close answers one that waits, one that was let in and not polled, and one that wasn't polled yet.
 pool 1 3
 add 1; keep -> 1; f0 check_out; f1 check_out; f2 check_out; f0 poll a -> pending; f1 poll b -> pending; give_back 1; b woken -> false; close; b woken
 f0 poll a -> closed; f1 poll b -> closed; f2 poll b -> closed; inside -> 1; waiting -> 0; served -> 1

@@ -40,7 +40,7 @@ queue 1 2
 push 1; f0 push 2; f1 push 3; f0 poll a -> pending; f1 poll b -> pending; pop -> 1; a woken; b woken -> false; f0 drop; b woken; f1 poll b
 try_pop -> 3; try_pop -> would_block
 
-# An item goes to the pop that waits for longest, at a closed queue too, where the next is told of the end; or gets it as the first is dropped.
+# An item goes to the pop that waits for longest, at a closed queue too, where the next is answered `closed`; or to the next as the first is dropped.
 queue 2 2
 f0 pop; f1 pop; f1 poll b -> pending; f0 poll a -> pending; consumers -> 2; push 1; close; b woken; a woken -> false; try_pop -> would_block
 f1 poll b -> 1; a woken; f0 poll a -> closed; try_pop -> closed; consumers -> 0
@@ -48,7 +48,7 @@ f1 poll b -> 1; a woken; f0 poll a -> closed; try_pop -> closed; consumers -> 0
 queue 2 2
 f0 pop; f1 pop; f0 poll a -> pending; f1 poll b -> pending; push 1; close; a woken; b woken -> false; f0 drop; b woken; f1 poll b -> 1; try_pop -> closed
 
-# A close is told to a push that waits, one that was let in and not polled, and one that wasn't polled yet; each has its item back.
+# A close answers a push that waits, one that was let in and not polled, and one that wasn't polled yet; each has its item back.
 queue 2 3
 push 1; push 2; f0 push 3; f1 push 4; f2 push 5; f0 poll a -> pending; f1 poll b -> pending; pop -> 1; b woken -> false; close; b woken
 f0 poll a -> closed; f1 poll b -> closed; f2 poll b -> closed; pop -> 2; pop -> closed; producers -> 0

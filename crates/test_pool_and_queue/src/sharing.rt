@@ -13,7 +13,7 @@ use std::time::{Clock, Duration};
 use test_asserts::same;
 use test_language::language::Call;
 
-// How many threads share three values, and how often each asks for one.
+// How many threads share three values, and how often each tries to have one.
 const SHARERS: usize = 6;
 
 const TURNS: usize = 120;
@@ -161,7 +161,7 @@ fn produce<H: Wait + Clock + RandomSource + AllocGlobal>(
     refused
 }
 
-// Pops until nothing comes: how many items it had, their sum, how many came after a later one of the same producer, and 1 if it isn't told of the end.
+// Pops until nothing comes: how many items it had, their sum, how many came after a later one of the same producer, and 1 if that isn't the end.
 fn consume<H: Wait + Clock + RandomSource + AllocGlobal>(
     rt: &H,
     queue: &Queue<&H, usize, 3>,
