@@ -1,8 +1,8 @@
 //! What a pool and a queue answer to the words of a story, and the ways to wait.
 //!
-//! `check_out`, `push` and `pop` are said in each way: `try_pop`, `pop`, `pop_for 1h`, `pop_until 1h`, `pop_async`; and `pop_by 4` in the way of that turn.
-//! In place of `check_out`, whose guard puts the value back, `keep` keeps it, `replace` has one ten times as large, and `shrink` none. A refused push that
-//! didn't hand its item back answers `?`.
+//! `check_out`, `push` and `pop` are said in each way: `try_pop`, `pop`, `pop_for 1h`, `pop_until 1h`, `pop_async`; and `pop_by 4` in the way of that
+//! turn. In place of `check_out`, whose guard puts the value back, `keep` keeps it, `replace` has one ten times as large, and `shrink` none. A refused
+//! push that didn't hand its item back answers `?`.
 
 use futures::executor::block_on;
 use futures::task::Poll;

@@ -1,8 +1,8 @@
 //! The player: makes the moves of a story at the pool or the queue of its first line, and finds the first row that is answered otherwise.
 //!
-//! `pool MAX ROOM` and `queue MAX ROOM` are first lines. `repeat 500 add` makes the call for each number up to that. `f0 end` ends a future, and answers the
-//! item of a push. `crowd 8 pop 1h push` has eight threads make the call one after another, each in the next way that waits; once all sleep, they
-//! are let in one by one.
+//! `pool MAX ROOM` and `queue MAX ROOM` are first lines. `repeat 500 add` makes the call for each number up to that. `f0 end` ends a future, and
+//! answers the item of a push. `crowd 8 pop 1h push` has eight threads make the call one after another, each in the next way that waits; once all
+//! sleep, they are let in one by one.
 
 ghost use Rattle.std.specs.Prelude.{◌<◌};
 

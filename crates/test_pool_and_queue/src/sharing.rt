@@ -84,7 +84,8 @@ fn count_up<H: Wait>(
     }
 }
 
-// Takes a value again and again, in each way in turn: how often it had one, how often another thread had it too, and how many calls that wait were refused.
+// Takes a value again and again, in each way in turn: how often it had one, how often another thread had it too, and how many calls that wait
+// were refused.
 fn share<H: Wait + Clock + RandomSource + AllocGlobal>(
     rt: &H,
     pool: &Pool<'_, H, usize, 3>,
@@ -105,8 +106,8 @@ fn share<H: Wait + Clock + RandomSource + AllocGlobal>(
     [had, shared, refused, 0]
 }
 
-// What comes of threads that share the values 0, 1 and 2: how often one was had twice at once, and a call that waits refused; how many are in and out;
-// whether each turn is counted by the pool and in a value; and how many of each value there are, as digits.
+// What comes of threads that share the values 0, 1 and 2: how often one was had twice at once, and a call that waits refused; how many are in
+// and out; whether each turn is counted by the pool and in a value; and how many of each value there are, as digits.
 fn shared_by_threads<H: Threads + Wait + Clock + RandomSource + AllocGlobal + Sync>(
     rt: &H,
 ) -> io::Result<([usize; 4], [bool; 2], usize)> {
@@ -161,7 +162,8 @@ fn produce<H: Wait + Clock + RandomSource + AllocGlobal>(
     refused
 }
 
-// Pops until nothing comes: how many items it had, their sum, how many came after a later one of the same producer, and 1 if that isn't the end.
+// Pops until nothing comes: how many items it had, their sum, how many came after a later one of the same producer, and 1 if that isn't
+// the end.
 fn consume<H: Wait + Clock + RandomSource + AllocGlobal>(
     rt: &H,
     queue: &Queue<&H, usize, 3>,
@@ -225,7 +227,7 @@ fn all_that_is_pushed_is_popped_once_and_in_order(rt: HostRuntime) {
     same!(rt; found, ([600, 4 * 11_175, 0, 0], 0));
 }
 
-// What each refusal says, of a pool, a pop and a push.
+// What each refusal says: of a pool, a pop and a push, on a line each.
 fn refusals(alloc: Global) -> Result<String, AllocError> {
     format!(in alloc;
         "{}; {}; {}; {}\n{}; {}; {}; {}\n{}; {}; {}; {}",
@@ -245,9 +247,12 @@ fn refusals(alloc: Global) -> Result<String, AllocError> {
 }
 
 const REFUSALS: &str = "\
-the pool is closed; no value is in, and the caller doesn't wait; the caller waited for as long as it would; it would have to wait, and every slot for waiters is held
-the queue is closed, and all items were taken; there is no item, and the caller doesn't wait; the caller waited for as long as it would; it would have to wait, and every slot for waiters is held
-the queue is closed; there is no place, and the caller doesn't wait; the caller waited for as long as it would; it would have to wait, and every slot for waiters is held";
+the pool is closed; no value is in, and the caller doesn't wait; the caller waited for as long as it would; \
+it would have to wait, and every slot for waiters is held
+the queue is closed, and all items were taken; there is no item, and the caller doesn't wait; the caller waited for as long as it would; \
+it would have to wait, and every slot for waiters is held
+the queue is closed; there is no place, and the caller doesn't wait; the caller waited for as long as it would; \
+it would have to wait, and every slot for waiters is held";
 
 #[test]
 fn refusals_say_why(rt: HostRuntime) {
