@@ -2,9 +2,9 @@
 ghost use Rattle.std.specs.Prelude.{◌≡◌, ◌≤◌, length};
 ghost use Rattle.saa_run.specs.Counts.{counted_line, counts_text};
 
-use crate::workers::Counts;
 use arrayvec::ArrayString;
 use itoa::Buffer;
+use saa_run_workers::workers::Counts;
 
 /// Three counts, each on a line of its own.
 pub type CountsText = ArrayString<128>;

@@ -2,36 +2,17 @@
 //! threads of their own.
 //!
 //! The top floor. `run` does what the arguments ask for: it runs the language of `script` or of `schedule`, over any reader and
-//! writer, by the engine in `saa_run_text`, or the `workers`, whose counts `counts` writes.
+//! writer, by the engine in `saa_run_text`, or the workers of `saa_run_workers`, whose counts `counts` writes.
 //! `docs/LANGUAGES.md` has the languages.
 #![tactic(auto)]
 
-#[cfg(test)]
-mod answer_tests;
 mod arguments;
-#[cfg(test)]
-mod bound_rows;
-#[cfg(test)]
-mod cancel_rows;
 mod counts;
-#[cfg(test)]
-mod kind_rows;
-#[cfg(test)]
-mod lock_rows;
-#[cfg(test)]
-mod mutants;
 mod run;
 mod schedule;
-#[cfg(test)]
-mod schedule_tests;
 mod script;
-#[cfg(test)]
-mod spelling;
-#[cfg(test)]
-mod tests;
 mod wants;
 mod words;
-mod workers;
 
 use crate::arguments::BehindName;
 use crate::run::Wanted;

@@ -1,5 +1,5 @@
 use Rattle.std.specs.Prelude.{◌≤◌, ◌-◌}
-use Rattle.saa_run.proofs.workers.Place.call_all.Given as goal
+use Rattle.saa_run_workers.proofs.workers.Place.call_all.Given as goal
 
 -- no more calls are made than there are to make
 abbrev pub invariant-loop-command : goal.invariant-loop-command

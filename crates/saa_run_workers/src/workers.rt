@@ -4,9 +4,6 @@
 //! of the journal is handed in. What the threads do at the three shared forms no contract can say. What the journal's
 //! shares count together is proved: a worker is done only with all its calls, and the count comes only where all are.
 
-#[cfg(test)]
-mod tests;
-
 ghost use Rattle.std.specs.Prelude.{◌≡◌, ◌<◌, ◌*◌, All, IfOk, length, replicate, sum_by, true};
 ghost use Rattle.saa_core.specs.declared.ticket.Registration.TheVariants.{Unregistered};
 ghost use Rattle.saa_core.specs.Tickets.{object_of};
@@ -45,7 +42,7 @@ pub struct Counts {
 }
 
 /// Somebody who watches the workers; for tests.
-pub(crate) trait Watch {
+pub trait Watch {
     /// Whether the worker of this number, counted from 0, may be started; where not, it is as if no thread could be had.
     fn may_start(&self, worker: u8) -> bool;
 
@@ -323,7 +320,7 @@ fn run_over<J: Journal + Send + Sync, R: Threads + Wait + Sync, W: Watch + Sync>
 }
 
 /// Starts so many workers, each on a thread of its own, lets `watch` see them, and counts what they did when all are done.
-pub(crate) fn run_with<R: Threads + Wait + Sync, W: Watch + Sync>(
+pub fn run_with<R: Threads + Wait + Sync, W: Watch + Sync>(
     rt: &R,
     alloc: Global,
     workers: u8,

@@ -1,5 +1,5 @@
 use Rattle.std.specs.Prelude.{◌≡◌, ◌≤◌, ◌+◌, ◌*◌, length, sum_by, vec_capacity}
-use Rattle.saa_run.proofs.workers.shares_of.Given as goal
+use Rattle.saa_run_workers.proofs.workers.shares_of.Given as goal
 
 -- each share that was taken out has all its calls, and there is room for those that are left
 abbrev pub invariant-loop-worker : goal.invariant-loop-worker

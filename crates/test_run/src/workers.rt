@@ -1,9 +1,9 @@
 //! That the workers run at the same time, what each of them does, and what they count.
 
-use crate::workers::{Counts, Watch, run_with};
 use saa::bench::{CommandOf, ReplyOf};
 use saa::journal::{Journal, Journalled};
 use saa::semaphore::{Semaphore, SemaphoreAnswer, SemaphoreCall, SemaphoreCore};
+use saa_run_workers::workers::{Counts, Watch, run_with};
 use std::alloc::Global;
 use std::process::Abort;
 use std::sync::Wait;

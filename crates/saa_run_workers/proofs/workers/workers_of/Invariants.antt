@@ -1,5 +1,5 @@
 use Rattle.std.specs.Prelude.{◌≡◌, ◌≤◌, ◌+◌, All, length, vec_capacity}
-use Rattle.saa_run.proofs.workers.workers_of.Given as goal
+use Rattle.saa_run_workers.proofs.workers.workers_of.Given as goal
 
 -- the shares that are left are unused, and there is room for a worker with each
 abbrev pub invariant-loop-share : goal.invariant-loop-share
