@@ -70,8 +70,8 @@ impl<R: Wait> Caller<R, Lock> for RwLockWorker<'_, u64> {
 // The first worker of a mutex writes 6: whether the second is refused beside it, and not after.
 fn write_beside<R: Wait>(
     rt: &R,
-    first: &mut MutexWorker<'_, u64>,
-    second: &mut MutexWorker<'_, u64>,
+    mut first: MutexWorker<'_, u64>,
+    mut second: MutexWorker<'_, u64>,
 ) -> [bool; 2] {
     let mut guard = first.lock(rt);
     *guard = 6;
@@ -82,14 +82,13 @@ fn write_beside<R: Wait>(
 
 // The same at a new mutex, and its value and its main word in the end.
 fn at_mutex<R: Wait + AllocGlobal>(rt: &R) -> Result<([bool; 2], [u64; 2]), AllocError> {
-    let (mutex, mut places) = Mutex::new(rt.alloc(), 5u64, 2)?;
-    let (Some(second), Some(first)) = (places.pop(), places.pop()) else {
+    let (mutex, mut places) = Mutex::new(rt.alloc(), 5u64, 3)?;
+    let (Some(witness), Some(second), Some(first)) = (places.pop(), places.pop(), places.pop())
+    else {
         unreachable!()
     };
-    let (mut first, mut second) = (mutex.worker(first), mutex.worker(second));
-    let answers = write_beside(rt, &mut first, &mut second);
-    drop(second);
-    let left = first.leave(rt);
+    let answers = write_beside(rt, mutex.worker(first), mutex.worker(second));
+    let left = mutex.worker(witness).leave(rt);
     let (value, words) = mutex.close(left);
     Ok((answers, [value, words.main()]))
 }
