@@ -36,12 +36,15 @@ enum Way {
 // What a future of permits answers, and then how many are left; nothing if it waits on.
 type Polled = Option<Result<Option<usize>, AcquireError>>;
 
-// A semaphore, by what is looked at; its trait can't name its permits, since the checker has no kind for a type that names `Self` there.
-trait Lends {
+// A semaphore, by what is looked at.
+trait Counted {
     fn left(&self) -> usize;
 
     fn end(&self) -> bool;
+}
 
+// The same, by the stories of it; they can't name its permits, since the checker has no kind for a type that names `Self` there.
+trait Lends: Counted {
     // How many are left at each step as so many permits by this call are parted; nothing if they aren't granted.
     fn parted(&self, way: Way, count: usize) -> Option<[usize; 4]>;
 
@@ -61,7 +64,7 @@ macro_rules! permits {
     };
 }
 
-impl<R: Wait + Clock + Drop> Lends for Threaded<R, MAX> {
+impl<R: Wait + Clock + Drop> Counted for Threaded<R, MAX> {
     fn left(&self) -> usize {
         self.available_permits(SeqCst)
     }
@@ -69,7 +72,9 @@ impl<R: Wait + Clock + Drop> Lends for Threaded<R, MAX> {
     fn end(&self) -> bool {
         self.shut()
     }
+}
 
+impl<R: Wait + Clock + Drop> Lends for Threaded<R, MAX> {
     fn parted(&self, way: Way, count: usize) -> Option<[usize; 4]> {
         parted(self, permits!(self, way, count)?)
     }
@@ -79,7 +84,7 @@ impl<R: Wait + Clock + Drop> Lends for Threaded<R, MAX> {
     }
 }
 
-impl<R: Wait + Clock + Drop> Lends for LockFree<R, MAX> {
+impl<R: Wait + Clock + Drop> Counted for LockFree<R, MAX> {
     fn left(&self) -> usize {
         self.available_permits(SeqCst)
     }
@@ -87,7 +92,9 @@ impl<R: Wait + Clock + Drop> Lends for LockFree<R, MAX> {
     fn end(&self) -> bool {
         self.shut()
     }
+}
 
+impl<R: Wait + Clock + Drop> Lends for LockFree<R, MAX> {
     fn parted(&self, way: Way, count: usize) -> Option<[usize; 4]> {
         parted(self, permits!(self, way, count)?)
     }
@@ -108,7 +115,7 @@ fn granted<P: Drop>(answer: InTime<P>) -> Option<P>
 }
 
 // How many are left beside four permits; after one was split off and went; after the others were parted and put together again; and once they are gone.
-fn parted<S: Lends, H: Holder>(semaphore: &S, permits: PermitFrom<H>) -> Option<[usize; 4]> {
+fn parted<S: Counted, H: Holder>(semaphore: &S, permits: PermitFrom<H>) -> Option<[usize; 4]> {
     let mut four = permits;
     let beside_four = semaphore.left();
     drop(four.split(1)?);
@@ -123,7 +130,7 @@ fn parted<S: Lends, H: Holder>(semaphore: &S, permits: PermitFrom<H>) -> Option<
 // Polls a future; one that waits is polled again if a shut wakes its task.
 fn polled<S>(semaphore: &S, task: &MockTask, mut future: PermitsFuture<'_, S>) -> Polled
 where
-    S: Lends + RawSemaphore<Error = AcquireError> + RawSemaphoreAsync,
+    S: Counted + RawSemaphore<Error = AcquireError> + RawSemaphoreAsync,
 {
     let mut answer = task.poll(&mut future);
     let is_pending = matches!(answer, Poll::Pending);
