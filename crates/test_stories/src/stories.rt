@@ -18,7 +18,11 @@ use test_language::reply::{ReplyWord, word};
 use test_language::worked;
 
 // At both forms.
-static OF_SEMAPHORES: [&str; 2] = [semaphore_stories::AT_BOTH, worked::SEMAPHORES];
+static OF_SEMAPHORES: [&str; 3] = [
+    semaphore_stories::AT_BOTH,
+    worked::SEMAPHORES,
+    semaphore_stories::SHUT,
+];
 
 static OF_LOCKS: [&str; 2] = [lock_stories::AT_BOTH, worked::LOCKS];
 
@@ -34,10 +38,9 @@ static WITH_RECEIPTS: [&str; 2] = [
     lock_stories::WITH_RECEIPTS,
 ];
 
-// At the threaded one, which alone has a shut, gates and barriers, and says how many sleep.
-static OF_THE_THREADED: [&str; 7] = [
+// At the threaded one, which alone has gates and barriers, and says how many sleep.
+static OF_THE_THREADED: [&str; 6] = [
     worked::SHUTS,
-    semaphore_stories::SHUT,
     gate_stories::ALL,
     worked::GATES,
     barrier_stories::ALL,

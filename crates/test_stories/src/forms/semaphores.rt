@@ -24,6 +24,8 @@ macro_rules! called {
     ($form:expr, $call:expr) => {
         match ($call.verb, $call.number()) {
             ("bound", _) => number(Self::MAX_PERMITS),
+            ("shut", _) => $form.shut().reply(),
+            ("is_shut", _) => $form.is_shut().reply(),
             ("is_open", _) => $form.is_open(SeqCst).reply(),
             ("is_closed", _) => $form.is_closed(SeqCst).reply(),
             ("available", _) => number($form.available_permits(SeqCst)),
@@ -165,8 +167,6 @@ impl<R: Wait + Clock + Drop, const MAX: usize> Form<Ticket, ThreadedPermits> for
     fn call(&self, call: &Call<'_>) -> Reply {
         let count = call.number().unwrap_or(1);
         match call.verb {
-            "shut" => self.shut().reply(),
-            "is_shut" => self.is_shut().reply(),
             "notified" => number(self.counts().notified()),
             "parked" => number(self.counts().parked()),
             "lookers" => number(self.counts().lookers() as usize),

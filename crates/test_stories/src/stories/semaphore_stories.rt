@@ -163,19 +163,19 @@ bound -> 1; f0 acquire 1; acquire 2 -> false; available -> 1; try 1; f0 poll a -
 release 1; try_poll 0
 ";
 
-/// A shut tells all that wait, in every way of waiting, and each later call. (Only the threaded form has it.)
+/// A shut tells all that wait, in every way of waiting, and each later call.
 pub(crate) const SHUT: &str = "\
 # A call that sleeps for one permit, by each way: none is there.
 semaphore 0 1
-- is_shut -> false; t1 acquire -> closed; shut; t1 ends; is_shut; acquire -> closed; shut -> false; parked -> 0; release 60; available -> 60
-- t1 acquire_with -> closed; shut; t1 ends; acquire_with release -> closed; calls -> 0; parked -> 0; release 60; available -> 60
-- t1 acquire_for 1h -> closed; shut; t1 ends; acquire_for 1h -> closed; parked -> 0; release 60; available -> 60
-- t1 acquire_until 1h -> closed; shut; t1 ends; acquire_until 1h -> closed; parked -> 0; release 60; available -> 60
-- t1 take_permit -> closed; shut; t1 ends; take_permit -> closed; try_permit -> timed_out; parked -> 0; release 60; available -> 60
-- t1 permit_for 1h -> closed; shut; t1 ends; permit_for 1h -> closed; parked -> 0; release 60; available -> 60
-- t1 permit_until 1h -> closed; shut; t1 ends; permit_until 1h -> closed; parked -> 0; release 60; available -> 60
-- t1 reg 0 1 sync; t1 poll_sync 0 -> closed; shut; t1 ends; reg 1 1 sync; poll_sync 1 -> closed; parked -> 0; release 60; available -> 60
-- t1 reg 0 1 sync; t1 poll_for 0 1h -> closed; shut; t1 ends; reg 1 1 sync; poll_until 1 1h -> closed; parked -> 0; release 60; available -> 60
+- is_shut -> false; t1 acquire -> closed; shut; t1 ends; is_shut; acquire -> closed; shut -> false; release 60; available -> 60
+- t1 acquire_with -> closed; shut; t1 ends; acquire_with release -> closed; calls -> 0; release 60; available -> 60
+- t1 acquire_for 1h -> closed; shut; t1 ends; acquire_for 1h -> closed; release 60; available -> 60
+- t1 acquire_until 1h -> closed; shut; t1 ends; acquire_until 1h -> closed; release 60; available -> 60
+- t1 take_permit -> closed; shut; t1 ends; take_permit -> closed; try_permit -> timed_out; release 60; available -> 60
+- t1 permit_for 1h -> closed; shut; t1 ends; permit_for 1h -> closed; release 60; available -> 60
+- t1 permit_until 1h -> closed; shut; t1 ends; permit_until 1h -> closed; release 60; available -> 60
+- t1 reg 0 1 sync; t1 poll_sync 0 -> closed; shut; t1 ends; reg 1 1 sync; poll_sync 1 -> closed; release 60; available -> 60
+- t1 reg 0 1 sync; t1 poll_for 0 1h -> closed; shut; t1 ends; reg 1 1 sync; poll_until 1 1h -> closed; release 60; available -> 60
 # Futures, polled before the shut and after it; and a callback that shuts.
 - f0 acquire; f0 poll a -> pending; shut; a woken; f0 poll a -> closed; f0 ended; f1 acquire; f1 poll a -> closed; f2 acquire 2; f2 poll b -> closed
 f2 acquire 64; f2 poll b -> false
@@ -183,14 +183,27 @@ f2 acquire 64; f2 poll b -> false
 
 # A call that sleeps for two, of which one is there.
 semaphore 1 1
-- t1 acquire 2 -> closed; shut; t1 ends; acquire 2 -> closed; acquire 64 -> false; parked -> 0; release 60; available -> 61
-- t1 acquire_with 2 -> closed; shut; t1 ends; acquire_with 2 release 2 -> closed; calls -> 0; parked -> 0; release 60; available -> 61
-- t1 acquire_for 2 1h -> closed; shut; t1 ends; acquire_for 2 1h -> closed; parked -> 0; release 60; available -> 61
-- t1 acquire_until 2 1h -> closed; shut; t1 ends; acquire_until 2 1h -> closed; parked -> 0; release 60; available -> 61
+- t1 acquire 2 -> closed; shut; t1 ends; acquire 2 -> closed; acquire 64 -> false; release 60; available -> 61
+- t1 acquire_with 2 -> closed; shut; t1 ends; acquire_with 2 release 2 -> closed; calls -> 0; release 60; available -> 61
+- t1 acquire_for 2 1h -> closed; shut; t1 ends; acquire_for 2 1h -> closed; release 60; available -> 61
+- t1 acquire_until 2 1h -> closed; shut; t1 ends; acquire_until 2 1h -> closed; release 60; available -> 61
 
 # Two sleep.
 semaphore 0 2
-t1 acquire -> closed; t2 acquire 2 -> closed; shut; t1 ends; t2 ends; parked -> 0
+t1 acquire -> closed; t2 acquire 2 -> closed; shut; t1 ends; t2 ends
+
+# A crowd.
+semaphore 0 24
+crowd 24 acquire -> closed; shut; crowd 24 ends; is_shut; available -> 0
+
+# Two pagers that wait.
+semaphore 3 2
+reg 0 4 sync; reg 1 1 sync; try_poll 0 -> not_ready; try_poll 1 -> not_ready; is_shut -> false; shut; try_poll 0 -> closed; try_poll 1 -> closed
+try -> false; is_shut
+
+# A shut needs no place: with none, each later call is told of it, and not that the room is full.
+semaphore 0 0
+acquire -> full; acquire 2 -> full; shut; acquire -> closed; acquire 2 -> closed
 
 # An answer of the shut that isn't taken gives nothing back; a grant before it does.
 semaphore 2 2
