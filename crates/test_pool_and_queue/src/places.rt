@@ -247,6 +247,16 @@ pub(crate) enum Trading<I, O> {
     Pop(O),
 }
 
+impl<I, O> Trading<I, O> {
+    // The item of a push.
+    fn item(&self) -> usize {
+        match self {
+            Trading::Push(item, _push) => *item,
+            Trading::Pop(_pop) => 0,
+        }
+    }
+}
+
 type AtQueue<'q, 'r, H, const MAX: usize> = Trading<
     Pushing<'q, &'r H, usize, MAX>,
     Popping<'q, &'r H, usize, MAX>,
@@ -309,9 +319,10 @@ impl<'q, 'r, H: Wait + Clock + RandomSource + AllocGlobal, const MAX: usize> Pla
     }
 
     fn polled(self, future: &mut AtQueue<'q, 'r, H, MAX>, task: &MockTask) -> Reply {
+        let item = future.item();
         match future {
-            Trading::Push(item, push) => match task.poll(push) {
-                Poll::Ready(pushed) => push_reply(pushed, *item),
+            Trading::Push(_item, push) => match task.poll(push) {
+                Poll::Ready(pushed) => push_reply(pushed, item),
                 Poll::Pending => word(ReplyWord::Pending),
             },
             Trading::Pop(pop) => match task.poll(pop) {
