@@ -12,12 +12,7 @@ use saa_word_forms::rw_lock::{RwLock, RwLockWorker};
 use saa_word_forms::testing::lock_of_rw_lock;
 use saa_word_threads::lock::{Lock, Place as LockPlace};
 use saa_word_threads::semaphore::{Place, Semaphore, Words};
-use std::alloc::AllocGlobal;
-use std::io;
-use std::random::RandomSource;
-use std::sync::Wait;
-use std::thread::{self, Threads};
-use std::time::Clock;
+use std::{io, thread};
 use test_language::language::{Call, Failed, Move, moves_of};
 use test_language::reply::{ReplyWord, number, word};
 
@@ -61,8 +56,8 @@ fn first_at_end(moves: &[Move<'static>], words: &Words, value: Option<u64>) -> F
 }
 
 // A story at a semaphore that dealt these places.
-fn with_workers<R: Wait + Clock + Threads + Sync + RandomSource + AllocGlobal>(
-    rt: &R,
+fn with_workers(
+    rt: &HostRuntime,
     host: HostRuntime,
     semaphore: &Semaphore,
     places: Vec<Place>,
@@ -77,8 +72,8 @@ fn with_workers<R: Wait + Clock + Threads + Sync + RandomSource + AllocGlobal>(
     Ok(first_of(thread::map_vec(rt, members, &|member| play(&scene, member))?))
 }
 
-fn at_semaphore<R: Wait + Clock + Threads + Sync + RandomSource + AllocGlobal>(
-    rt: &R,
+fn at_semaphore(
+    rt: &HostRuntime,
     host: HostRuntime,
     line: &Call<'_>,
     moves: &[Move<'static>],
@@ -97,8 +92,8 @@ fn at_semaphore<R: Wait + Clock + Threads + Sync + RandomSource + AllocGlobal>(
 }
 
 // The same at a lock.
-fn with_owners<R: Wait + Clock + Threads + Sync + RandomSource + AllocGlobal>(
-    rt: &R,
+fn with_owners(
+    rt: &HostRuntime,
     host: HostRuntime,
     lock: &Lock,
     places: Vec<LockPlace>,
@@ -113,8 +108,8 @@ fn with_owners<R: Wait + Clock + Threads + Sync + RandomSource + AllocGlobal>(
     Ok(first_of(thread::map_vec(rt, members, &|member| play(&scene, member))?))
 }
 
-fn at_lock<R: Wait + Clock + Threads + Sync + RandomSource + AllocGlobal>(
-    rt: &R,
+fn at_lock(
+    rt: &HostRuntime,
     host: HostRuntime,
     line: &Call<'_>,
     moves: &[Move<'static>],
@@ -131,11 +126,7 @@ fn at_lock<R: Wait + Clock + Threads + Sync + RandomSource + AllocGlobal>(
 }
 
 // At a reader-writer lock with two workers, and one that leaves at the end.
-fn at_rw_lock<R: Wait + Clock + Threads + Sync + RandomSource + AllocGlobal>(
-    rt: &R,
-    host: HostRuntime,
-    moves: &[Move<'static>],
-) -> io::Result<Found> {
+fn at_rw_lock(rt: &HostRuntime, host: HostRuntime, moves: &[Move<'static>]) -> io::Result<Found> {
     let (rwlock, mut places) = RwLock::new(rt.alloc(), VALUE, 3)?;
     let (Some(witness), Some(second), Some(first)) = (places.pop(), places.pop(), places.pop())
     else {
@@ -150,8 +141,8 @@ fn at_rw_lock<R: Wait + Clock + Threads + Sync + RandomSource + AllocGlobal>(
     Ok(found.or(first_at_end(moves, &words, Some(value))))
 }
 
-fn with_rw_lock<R: Wait + Clock + Threads + Sync + RandomSource + AllocGlobal>(
-    rt: &R,
+fn with_rw_lock(
+    rt: &HostRuntime,
     host: HostRuntime,
     lock: &Lock,
     workers: Vec<RwLockWorker<'_, u64>>,
@@ -163,8 +154,8 @@ fn with_rw_lock<R: Wait + Clock + Threads + Sync + RandomSource + AllocGlobal>(
 }
 
 /// The first row of these stories that is answered otherwise.
-pub fn first_failed<R: Wait + Clock + Threads + Sync + RandomSource + AllocGlobal>(
-    rt: &R,
+pub fn first_failed(
+    rt: &HostRuntime,
     host: HostRuntime,
     stories: &'static str,
 ) -> io::Result<Found> {
