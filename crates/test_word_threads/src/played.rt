@@ -12,7 +12,12 @@ use saa_word_forms::rw_lock::{RwLock, RwLockWorker};
 use saa_word_forms::testing::lock_of_rw_lock;
 use saa_word_threads::lock::{Lock, Place as LockPlace};
 use saa_word_threads::semaphore::{Place, Semaphore, Words};
-use std::{io, thread};
+use std::alloc::AllocGlobal;
+use std::io;
+use std::random::RandomSource;
+use std::sync::Wait;
+use std::thread::{self, Threads};
+use std::time::Clock;
 use test_language::language::{Call, Failed, Move, moves_of};
 use test_language::reply::{ReplyWord, number, word};
 
@@ -56,8 +61,8 @@ fn first_at_end(moves: &[Move<'static>], words: &Words, value: Option<u64>) -> F
 }
 
 // A story at a semaphore that dealt these places.
-fn with_workers(
-    rt: &HostRuntime,
+fn with_workers<R: Wait + Clock + Threads + Sync + RandomSource + AllocGlobal>(
+    rt: &R,
     host: HostRuntime,
     semaphore: &Semaphore,
     places: Vec<Place>,
@@ -72,8 +77,8 @@ fn with_workers(
     Ok(first_of(thread::map_vec(rt, members, &|member| play(&scene, member))?))
 }
 
-fn at_semaphore(
-    rt: &HostRuntime,
+fn at_semaphore<R: Wait + Clock + Threads + Sync + RandomSource + AllocGlobal>(
+    rt: &R,
     host: HostRuntime,
     line: &Call<'_>,
     moves: &[Move<'static>],
@@ -92,8 +97,8 @@ fn at_semaphore(
 }
 
 // The same at a lock.
-fn with_owners(
-    rt: &HostRuntime,
+fn with_owners<R: Wait + Clock + Threads + Sync + RandomSource + AllocGlobal>(
+    rt: &R,
     host: HostRuntime,
     lock: &Lock,
     places: Vec<LockPlace>,
@@ -108,8 +113,8 @@ fn with_owners(
     Ok(first_of(thread::map_vec(rt, members, &|member| play(&scene, member))?))
 }
 
-fn at_lock(
-    rt: &HostRuntime,
+fn at_lock<R: Wait + Clock + Threads + Sync + RandomSource + AllocGlobal>(
+    rt: &R,
     host: HostRuntime,
     line: &Call<'_>,
     moves: &[Move<'static>],
@@ -126,7 +131,11 @@ fn at_lock(
 }
 
 // At a reader-writer lock with two workers, and one that leaves at the end.
-fn at_rw_lock(rt: &HostRuntime, host: HostRuntime, moves: &[Move<'static>]) -> io::Result<Found> {
+fn at_rw_lock<R: Wait + Clock + Threads + Sync + RandomSource + AllocGlobal>(
+    rt: &R,
+    host: HostRuntime,
+    moves: &[Move<'static>],
+) -> io::Result<Found> {
     let (rwlock, mut places) = RwLock::new(rt.alloc(), VALUE, 3)?;
     let (Some(witness), Some(second), Some(first)) = (places.pop(), places.pop(), places.pop())
     else {
@@ -141,8 +150,8 @@ fn at_rw_lock(rt: &HostRuntime, host: HostRuntime, moves: &[Move<'static>]) -> i
     Ok(found.or(first_at_end(moves, &words, Some(value))))
 }
 
-fn with_rw_lock(
-    rt: &HostRuntime,
+fn with_rw_lock<R: Wait + Clock + Threads + Sync + RandomSource + AllocGlobal>(
+    rt: &R,
     host: HostRuntime,
     lock: &Lock,
     workers: Vec<RwLockWorker<'_, u64>>,
@@ -154,8 +163,8 @@ fn with_rw_lock(
 }
 
 /// The first row of these stories that is answered otherwise.
-pub fn first_failed(
-    rt: &HostRuntime,
+pub fn first_failed<R: Wait + Clock + Threads + Sync + RandomSource + AllocGlobal>(
+    rt: &R,
     host: HostRuntime,
     stories: &'static str,
 ) -> io::Result<Found> {
