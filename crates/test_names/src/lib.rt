@@ -3,6 +3,9 @@
 //! What the names do is shown by other tests. Names that several modules of `saa` have are passed on in as many modules here.
 #![tactic(auto)]
 
+ghost use Rattle.saa.specs.WordLocks.{IsDealtBy as IsDealtByLock};
+ghost use Rattle.saa.specs.WordSemaphores.{IsDealtBy};
+
 pub use saa::{
     AcquireError, Barrier, Full, Gate, Guard, Lock, Lowers, Mutex, MutexGuard, Pager, Permit,
     PermitOf, RwLock, RwLockReadGuard, RwLockWriteGuard, Semaphore, SemaphoreOf, TryLockError,
@@ -63,9 +66,6 @@ pub mod cores {
 
 /// The word forms; and contracts of calls at places that a form dealt, by definitions that `saa` passes on.
 pub mod word {
-    ghost use Rattle.saa.specs.WordLocks.{IsDealtBy as IsDealtByLock};
-    ghost use Rattle.saa.specs.WordSemaphores.{IsDealtBy};
-
     pub use saa::word::{
         Error, Guard, Left, Lock, LockLeft, LockPlace, Lowers, Mode, Mutex, MutexGuard,
         MutexWorker, Place, Receipt, RwLock, RwLockReadGuard, RwLockWorker, RwLockWriteGuard,

@@ -4,10 +4,10 @@ ghost use Rattle.std.specs.Prelude.{All};
 ghost use Rattle.saa_word_threads.specs.Locks.{IsDealtBy as IsDealtByLock};
 ghost use Rattle.saa_word_threads.specs.Semaphores.{IsDealtBy};
 
-use crate::locks::{self, owners_of};
-use crate::player::{members_of, play};
+use crate::locks::{self, Owner, owners_of};
+use crate::player::{Member, members_of, play};
 use crate::scene::{MOST, Scene, narrow};
-use crate::semaphores::{self, workers_of};
+use crate::semaphores::{self, Worker, workers_of};
 use saa_word_forms::rw_lock::{RwLock, RwLockWorker};
 use saa_word_forms::testing::lock_of_rw_lock;
 use saa_word_threads::lock::{Lock, Place as LockPlace};
@@ -60,6 +60,31 @@ fn first_at_end(moves: &[Move<'static>], words: &Words, value: Option<u64>) -> F
     None
 }
 
+// The members play, each on a thread of its own: the first row that was answered otherwise.
+fn play_workers<R: Wait + Clock + Threads + Sync + AllocGlobal>(
+    scene: &Scene<'_, R, Semaphore>,
+    members: Vec<Member<Worker<'_, 63>>>,
+) -> io::Result<Found> {
+    let found = thread::map_vec(scene.rt, members, &|member| play(scene, member))?;
+    Ok(first_of(found))
+}
+
+fn play_owners<R: Wait + Clock + Threads + Sync + AllocGlobal>(
+    scene: &Scene<'_, R, Lock>,
+    members: Vec<Member<Owner<'_, R>>>,
+) -> io::Result<Found> {
+    let found = thread::map_vec(scene.rt, members, &|member| play(scene, member))?;
+    Ok(first_of(found))
+}
+
+fn play_guards<R: Wait + Clock + Threads + Sync + AllocGlobal>(
+    scene: &Scene<'_, R, Lock>,
+    members: Vec<Member<RwLockWorker<'_, u64>>>,
+) -> io::Result<Found> {
+    let found = thread::map_vec(scene.rt, members, &|member| play(scene, member))?;
+    Ok(first_of(found))
+}
+
 // A story at a semaphore that dealt these places.
 fn with_workers<R: Wait + Clock + Threads + Sync + RandomSource + AllocGlobal>(
     rt: &R,
@@ -74,7 +99,7 @@ fn with_workers<R: Wait + Clock + Threads + Sync + RandomSource + AllocGlobal>(
     let scene = Scene::new(rt, host, semaphore, moves, count)?;
     let workers = workers_of(rt.alloc(), semaphore, places, count.min(MOST))?;
     let members = members_of(rt.alloc(), workers, count)?;
-    Ok(first_of(thread::map_vec(rt, members, &|member| play(&scene, member))?))
+    play_workers(&scene, members)
 }
 
 fn at_semaphore<R: Wait + Clock + Threads + Sync + RandomSource + AllocGlobal>(
@@ -110,7 +135,7 @@ fn with_owners<R: Wait + Clock + Threads + Sync + RandomSource + AllocGlobal>(
     let scene = Scene::new(rt, host, lock, moves, count)?;
     let owners = owners_of(rt.alloc(), lock, &scene, places, count.min(MOST))?;
     let members = members_of(rt.alloc(), owners, count)?;
-    Ok(first_of(thread::map_vec(rt, members, &|member| play(&scene, member))?))
+    play_owners(&scene, members)
 }
 
 fn at_lock<R: Wait + Clock + Threads + Sync + RandomSource + AllocGlobal>(
@@ -159,7 +184,7 @@ fn with_rw_lock<R: Wait + Clock + Threads + Sync + RandomSource + AllocGlobal>(
 ) -> io::Result<Found> {
     let scene = Scene::new(rt, host, lock, moves, 2)?;
     let members = members_of(rt.alloc(), workers, 2)?;
-    Ok(first_of(thread::map_vec(rt, members, &|member| play(&scene, member))?))
+    play_guards(&scene, members)
 }
 
 /// The first row of these stories that is answered otherwise.
