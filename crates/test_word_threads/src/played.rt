@@ -6,7 +6,7 @@ ghost use Rattle.saa_word_threads.specs.Semaphores.{IsDealtBy};
 
 use crate::locks::{self, Owner, owners_of};
 use crate::player::{Member, members_of, play};
-use crate::scene::{MOST, Scene, narrow};
+use crate::scene::{Caller, Form, MOST, Scene, narrow};
 use crate::semaphores::{self, Worker, workers_of};
 use saa_word_forms::rw_lock::{RwLock, RwLockWorker};
 use saa_word_forms::testing::lock_of_rw_lock;
@@ -15,7 +15,7 @@ use saa_word_threads::semaphore::{Place, Semaphore, Words};
 use std::alloc::AllocGlobal;
 use std::io;
 use std::random::RandomSource;
-use std::sync::Wait;
+use std::sync::{Mutex, Wait};
 use std::thread::{self, Threads};
 use std::time::Clock;
 use test_language::language::{Call, Failed, Move, moves_of};
@@ -60,12 +60,25 @@ fn first_at_end(moves: &[Move<'static>], words: &Words, value: Option<u64>) -> F
     None
 }
 
+// One of the members plays: the first row that it found answered otherwise.
+fn play_next<R: Wait + Clock, F: Form, C: Caller<R, F> + Drop>(
+    scene: &Scene<'_, R, F>,
+    members: &Mutex<Vec<Member<C>>>,
+) -> Found {
+    let member = members.lock(scene.rt).pop();
+    match member {
+        Some(member) => play(scene, member),
+        None => None,
+    }
+}
+
 // The members play, each on a thread of its own: the first row that was answered otherwise.
 fn play_workers<R: Wait + Clock + Threads + Sync + AllocGlobal>(
     scene: &Scene<'_, R, Semaphore>,
     members: Vec<Member<Worker<'_, 63>>>,
 ) -> io::Result<Found> {
-    let found = thread::map_vec(scene.rt, members, &|member| play(scene, member))?;
+    let (rt, count, members) = (scene.rt, members.len(), Mutex::new(members));
+    let found = thread::map_indices(rt, rt.alloc(), count, &|_thread| play_next(scene, &members))?;
     Ok(first_of(found))
 }
 
@@ -73,7 +86,8 @@ fn play_owners<R: Wait + Clock + Threads + Sync + AllocGlobal>(
     scene: &Scene<'_, R, Lock>,
     members: Vec<Member<Owner<'_, R>>>,
 ) -> io::Result<Found> {
-    let found = thread::map_vec(scene.rt, members, &|member| play(scene, member))?;
+    let (rt, count, members) = (scene.rt, members.len(), Mutex::new(members));
+    let found = thread::map_indices(rt, rt.alloc(), count, &|_thread| play_next(scene, &members))?;
     Ok(first_of(found))
 }
 
@@ -81,7 +95,8 @@ fn play_guards<R: Wait + Clock + Threads + Sync + AllocGlobal>(
     scene: &Scene<'_, R, Lock>,
     members: Vec<Member<RwLockWorker<'_, u64>>>,
 ) -> io::Result<Found> {
-    let found = thread::map_vec(scene.rt, members, &|member| play(scene, member))?;
+    let (rt, count, members) = (scene.rt, members.len(), Mutex::new(members));
+    let found = thread::map_indices(rt, rt.alloc(), count, &|_thread| play_next(scene, &members))?;
     Ok(first_of(found))
 }
 
