@@ -6,7 +6,7 @@ use std::io::{self, ErrorKind, Read, Write};
 use test_asserts::same;
 
 // A writer that counts the pieces that it is handed, and those that are one line.
-#[derive(Drop)]
+#[derive(Default, Drop)]
 struct CountingWriter {
     pieces: usize,
     lines: usize,
@@ -31,10 +31,7 @@ impl Write for CountingWriter {
 // The greatest number of a bad line.
 #[test]
 fn a_line_is_written_in_one_piece(rt: HostRuntime) {
-    let mut writer = CountingWriter {
-        pieces: 0,
-        lines: 0,
-    };
+    let mut writer = CountingWriter::default();
     let is_put = put_bad_line(&mut writer, u64::MAX).is_ok();
     same!(rt; (is_put, writer.pieces, writer.lines), (true, 1, 1));
 }

@@ -3,367 +3,214 @@
 use saa::bench::{CommandOf, ReplyOf};
 use saa::journal::{Journal, Journalled};
 use saa::semaphore::{Semaphore, SemaphoreAnswer, SemaphoreCall, SemaphoreCore};
-use saa_run_workers::workers::{Counts, Watch, run_with};
+use saa_run_workers::workers::{Watch, run_with};
 use std::alloc::Global;
-use std::process::Abort;
 use std::sync::Wait;
-use std::sync::atomic::{AtomicBool, AtomicU64, Ordering};
-use std::thread::{Threads, yield_now};
+use std::sync::atomic::{AtomicUsize, Ordering};
+use std::thread::{self, Threads};
+use std::time::{Clock, Duration};
+use test_asserts::same;
 
-// For how many turns worker 0 waits for worker 1, and how often it gives way in each: seconds in all, since a thread that was
-// just started may take milliseconds to come.
+// For how many milliseconds a worker looks out for another at most: one that was just started may take a while to come.
 const PATIENCE: u16 = 10_000;
 
-const YIELDS: u16 = 1_000;
+// How many milliseconds worker 1 is late, where it is to be: time enough for the others to do all that they do without it.
+const LATE: u64 = 50;
 
-// For how many turns the keeper of all permits but one gives way until there is a waiter for some.
-const KEPT: u16 = 1_000;
+// How many workers there are, how many of them can be started, how many permits are taken for good, one at a time, while a worker holds some, and
+// what else is done. `meets`: worker 0 doesn't go on until worker 1 has begun, which it must in time. `keeps`: worker 1 begins late, and the first
+// that holds permits keeps all but one until another waits for some, which it must in time.
+type Row = (u8, u8, u8, &'static str);
 
-// For how many turns worker 1 is late, where it is to be: time enough for the others to do all that they do without it.
-const LATE: u16 = 50;
-
-// Gives way for a while.
-fn turn() {
-    for _yield in 0..YIELDS {
-        yield_now();
-    }
-}
-
-// What workers are to do beside their work, and what is counted of it.
-struct Row {
-    story: &'static str,
-    workers: u8,
-    // The number of workers that can be started.
-    allowed: u8,
-    // Whether worker 0 doesn't go on until worker 1 has begun, which it must in time.
-    meets: bool,
-    // Whether worker 1 begins late, and somebody keeps all permits but one for a while.
-    keeps: bool,
-    // How many permits are taken for good, one at a time, while a worker holds some.
-    steals: u64,
-    // What the workers count; nothing where one can't be started.
-    counts: Option<Counts>,
-    // Which workers have begun, each by a bit of its own: no two have the same, or the sum is another.
-    begun: u64,
-    // How often one has held permits, and how often at least those were two of 63 at that.
-    holds: u64,
-    alone: u64,
-    // How many calls the journal has, each to take a permit, and how many of them were granted.
-    tries: u64,
-    granted: u64,
-}
-
-static TWO_AT_ONCE: Row = Row {
-    story: "two run at once",
-    workers: 2,
-    allowed: 2,
-    meets: true,
-    keeps: false,
-    steals: 0,
-    counts: Some(Counts {
-        leaders: 4,
-        available: 63,
-        journal: 100,
-    }),
-    begun: 3,
-    holds: 200,
-    alone: 0,
-    tries: 100,
-    granted: 63,
-};
-
-static ROWS: [Row; 7] = [
-    Row {
-        story: "one has always two of all permits, and each of its journalled calls is granted",
-        workers: 1,
-        allowed: 1,
-        meets: false,
-        keeps: false,
-        steals: 0,
-        counts: Some(Counts {
-            leaders: 4,
-            available: 63,
-            journal: 50,
-        }),
-        begun: 1,
-        holds: 100,
-        alone: 100,
-        tries: 50,
-        granted: 50,
-    },
-    Row {
-        story: "one keeps all permits but one for a while: the other waits for two, and misses none of its turns",
-        workers: 2,
-        allowed: 2,
-        meets: false,
-        keeps: true,
-        steals: 0,
-        counts: Some(Counts {
-            leaders: 4,
-            available: 63,
-            journal: 100,
-        }),
-        begun: 3,
-        holds: 200,
-        alone: 0,
-        tries: 100,
-        granted: 63,
-    },
-    Row {
-        story: "each of 32 has a number of its own, and together they take all 63 permits of the journal's semaphore",
-        workers: 32,
-        allowed: 32,
-        meets: false,
-        keeps: true,
-        steals: 0,
-        counts: Some(Counts {
-            leaders: 4,
-            available: 63,
-            journal: 1600,
-        }),
-        begun: 0xffff_ffff,
-        holds: 3_200,
-        alone: 0,
-        tries: 1_600,
-        granted: 63,
-    },
-    Row {
-        story: "permits are counted when all are done: those that were taken for good meanwhile are missing",
-        workers: 1,
-        allowed: 1,
-        meets: false,
-        keeps: false,
-        steals: 3,
-        counts: Some(Counts {
-            leaders: 4,
-            available: 60,
-            journal: 50,
-        }),
-        begun: 1,
-        holds: 100,
-        alone: 0,
-        tries: 50,
-        granted: 50,
-    },
-    Row {
-        story: "none of three can be started, and nothing is done",
-        workers: 3,
-        allowed: 0,
-        meets: false,
-        keeps: false,
-        steals: 0,
-        counts: None,
-        begun: 0,
-        holds: 0,
-        alone: 0,
-        tries: 0,
-        granted: 0,
-    },
-    Row {
-        story: "one of three can be started: it ends at the sealed gate, and does nothing else",
-        workers: 3,
-        allowed: 1,
-        meets: false,
-        keeps: false,
-        steals: 0,
-        counts: None,
-        begun: 1,
-        holds: 0,
-        alone: 0,
-        tries: 0,
-        granted: 0,
-    },
-    Row {
-        story: "two of three can be started: each ends at the sealed gate, and does nothing else",
-        workers: 3,
-        allowed: 2,
-        meets: false,
-        keeps: false,
-        steals: 0,
-        counts: None,
-        begun: 3,
-        holds: 0,
-        alone: 0,
-        tries: 0,
-        granted: 0,
-    },
+static ROWS: [Row; 8] = [
+    // Two run at once.
+    (2, 2, 0, "meets"),
+    // One has always two of all permits, and each of its journalled calls is granted.
+    (1, 1, 0, ""),
+    // One keeps all permits but one for a while: the other waits for two, and misses none of its turns.
+    (2, 2, 0, "keeps"),
+    // Each of 32 has a number of its own, and together they take all 63 permits of the journal's semaphore.
+    (32, 32, 0, "keeps"),
+    // Permits are counted when all are done: those that were taken for good meanwhile are missing.
+    (1, 1, 3, ""),
+    // None of three can be started, and nothing is done.
+    (3, 0, 0, ""),
+    // One or two of three can be started: each ends at the sealed gate, and does nothing else.
+    (3, 1, 0, ""),
+    (3, 2, 0, ""),
 ];
+
+// What the workers count (leaders, available permits, the journal's calls), or nothing; and what is counted of them: each counter of a `Tally`.
+type Found = (Option<[usize; 3]>, [usize; 6]);
+
+// A bit for each worker up to so many.
+fn bits_to(workers: u8) -> usize {
+    1usize.wrapping_shl(u32::from(workers)).wrapping_sub(1)
+}
+
+// What is found of a row, by hand: one leads in each of 4 rounds of the barrier, and each worker takes two of 63 permits 100 times, and makes 50 calls
+// for one permit, of which 63 are granted to all. One that is alone sees 61 left, but only once if others are taken for good then. Where one can't be
+// started, those that are only begin.
+fn expected(row: &Row) -> Found {
+    let (workers, allowed, steals, _) = *row;
+    let begun = bits_to(allowed);
+    if allowed < workers {
+        return (None, [begun, 0, 0, 0, 0, 0]);
+    }
+    let calls = usize::from(workers).wrapping_mul(50);
+    let available = 63usize.wrapping_sub(usize::from(steals));
+    let alone = match (workers, steals) {
+        (1, 0) => 100,
+        (1, _) => 1,
+        _ => 0,
+    };
+    let (holds, granted) = (calls.wrapping_mul(2), calls.min(63));
+    (
+        Some([4, available, calls]),
+        [begun, holds, alone, calls, granted, 0],
+    )
+}
 
 // What has been counted.
 #[derive(Drop)]
-struct Tally<'t> {
+struct Tally<'t, R> {
+    rt: &'t R,
     row: &'t Row,
-    // Whether worker 0 saw worker 1 begin.
-    has_met: AtomicBool,
-    begun: AtomicU64,
-    holds: AtomicU64,
-    alone: AtomicU64,
-    tries: AtomicU64,
-    granted: AtomicU64,
-    stolen: AtomicU64,
-    // How often one has held permits while another worker hadn't begun, and how often the one permit that was left was taken.
-    early: AtomicU64,
-    torn: AtomicU64,
-    // Whether somebody has kept all permits but one once, or nobody is to.
-    has_kept: AtomicBool,
+    // Which workers have begun, each by a bit of its own: no two have the same, or the sum is another.
+    begun: AtomicUsize,
+    // How often one has held permits, and how often the only worker held two of 63.
+    holds: AtomicUsize,
+    alone: AtomicUsize,
+    // How many calls the journal has, each to take a permit, and how many of them were granted.
+    tries: AtomicUsize,
+    granted: AtomicUsize,
+    // 1 for each time that one held permits while another worker hadn't begun, 1000 for each permit that couldn't be taken for good, 1,000,000 if
+    // nobody waited for permits, or the one that was left was taken, and 1,000,000,000 if worker 0 didn't see worker 1 begin.
+    wrong: AtomicUsize,
 }
 
-impl<'t> Tally<'t> {
-    fn new(row: &'t Row) -> Tally<'t> {
+// Counts so many more.
+fn add(counter: &AtomicUsize, more: usize) {
+    let _ = counter.fetch_add(more, Ordering::SeqCst);
+}
+
+fn read(counter: &AtomicUsize) -> usize {
+    counter.load(Ordering::SeqCst)
+}
+
+impl<'t, R: Clock> Tally<'t, R> {
+    fn new(rt: &'t R, row: &'t Row) -> Tally<'t, R> {
         Tally {
+            rt,
             row,
-            has_met: AtomicBool::new(!row.meets),
-            begun: AtomicU64::new(0),
-            holds: AtomicU64::new(0),
-            alone: AtomicU64::new(0),
-            tries: AtomicU64::new(0),
-            granted: AtomicU64::new(0),
-            stolen: AtomicU64::new(0),
-            early: AtomicU64::new(0),
-            torn: AtomicU64::new(0),
-            has_kept: AtomicBool::new(!row.keeps),
+            begun: AtomicUsize::new(0),
+            holds: AtomicUsize::new(0),
+            alone: AtomicUsize::new(0),
+            tries: AtomicUsize::new(0),
+            granted: AtomicUsize::new(0),
+            wrong: AtomicUsize::new(0),
         }
     }
 
     // Holds worker 0 until worker 1 has begun, or for so long that it surely would have.
     fn meet(&self) {
         for _turn in 0..PATIENCE {
-            if self.begun.load(Ordering::SeqCst) == 3 {
-                self.has_met.store(true, Ordering::SeqCst);
+            if read(&self.begun) == 3 {
                 return;
             }
-            turn();
+            thread::sleep(self.rt, Duration::from_millis(1));
         }
+        add(&self.wrong, 1_000_000_000);
     }
 
-    // Takes permits for good, one at a time.
-    fn steal<S: Wait + Drop>(&self, permits: &Semaphore<S>) {
-        if self.stolen.load(Ordering::SeqCst) < self.row.steals && permits.try_acquire() {
-            let _ = self.stolen.fetch_add(1, Ordering::SeqCst);
+    // Keeps all permits but one until somebody waits for some, or for so long that it surely would. Whether it does, and the one is left then: a worker
+    // asks for two together.
+    fn keep_most<S: Wait + Drop>(&self, permits: &Semaphore<S>) -> bool {
+        if permits.acquire_many_sync(60) != Ok(true) {
+            return false;
         }
+        let mut is_left = false;
+        for _turn in 0..PATIENCE {
+            if !permits.try_acquire_many(0) {
+                is_left = permits.available_permits(Ordering::SeqCst) == 1;
+                break;
+            }
+            thread::sleep(self.rt, Duration::from_millis(1));
+        }
+        permits.release_many(60);
+        is_left
     }
 }
 
-// Gives way for as long as a worker is to be late.
-fn be_late() {
-    for _turn in 0..LATE {
-        turn();
-    }
-}
-
-// Keeps all permits but one until somebody waits for some, or for a second or so. Whether the one is left then: a worker asks for two together.
-fn keep_most<S: Wait + Drop>(permits: &Semaphore<S>) -> bool {
-    if permits.acquire_many_sync(60) != Ok(true) {
-        return false;
-    }
-    for _turn in 0..KEPT {
-        if !permits.try_acquire_many(0) {
-            break;
-        }
-        turn();
-    }
-    let is_left = permits.available_permits(Ordering::SeqCst) == 1;
-    permits.release_many(60);
-    is_left
-}
-
-impl Watch for Tally<'_> {
+impl<R: Clock> Watch for Tally<'_, R> {
     fn may_start(&self, worker: u8) -> bool {
-        worker < self.row.allowed
+        let (_, allowed, _, _) = *self.row;
+        worker < allowed
     }
 
     fn begin(&self, worker: u8) {
-        if worker == 1 && self.row.keeps {
-            be_late();
+        let (_, _, _, beside) = *self.row;
+        if worker == 1 && beside == "keeps" {
+            thread::sleep(self.rt, Duration::from_millis(LATE));
         }
-        let bit = 1u64.wrapping_shl(u32::from(worker));
-        let _ = self.begun.fetch_add(bit, Ordering::SeqCst);
-        if worker == 0 && self.row.meets {
+        add(&self.begun, 1usize.wrapping_shl(u32::from(worker)));
+        if worker == 0 && beside == "meets" {
             self.meet();
         }
     }
 
     fn hold<S: Wait + Drop>(&self, permits: &Semaphore<S>) {
-        let _ = self.holds.fetch_add(1, Ordering::SeqCst);
+        let (workers, allowed, steals, beside) = *self.row;
+        let before = self.holds.fetch_add(1, Ordering::SeqCst);
         // Permits come behind the barrier, at which all of them have arrived.
-        if self.begun.load(Ordering::SeqCst) != self.row.begun {
-            let _ = self.early.fetch_add(1, Ordering::SeqCst);
+        let are_all = read(&self.begun) == bits_to(allowed);
+        add(&self.wrong, usize::from(!are_all));
+        let are_two = permits.available_permits(Ordering::SeqCst) == 61;
+        add(&self.alone, usize::from(workers == 1 && are_two));
+        if before == 0 && beside == "keeps" && !self.keep_most(permits) {
+            add(&self.wrong, 1_000_000);
         }
-        if permits.available_permits(Ordering::SeqCst) == 61 {
-            let _ = self.alone.fetch_add(1, Ordering::SeqCst);
+        if before < usize::from(steals) && !permits.try_acquire() {
+            add(&self.wrong, 1000);
         }
-        if !self.has_kept.swap(true, Ordering::SeqCst) && !keep_most(permits) {
-            let _ = self.torn.fetch_add(1, Ordering::SeqCst);
-        }
-        self.steal(permits);
     }
 
     fn read<J: Journal>(&self, journal: &Journalled<SemaphoreCore, J>) {
         for (command, reply) in journal.history() {
             let is_try = *command == CommandOf::Call(SemaphoreCall::TryAcquireMany(1));
             let is_granted = *reply == ReplyOf::Answered(SemaphoreAnswer::Bool(true));
-            let _ = self.tries.fetch_add(u64::from(is_try), Ordering::SeqCst);
-            let _ = self
-                .granted
-                .fetch_add(u64::from(is_granted), Ordering::SeqCst);
+            add(&self.tries, usize::from(is_try));
+            add(&self.granted, usize::from(is_granted));
         }
     }
 }
 
-#[test]
-fn two_at_once(rt: HostRuntime) {
-    watch(&rt, rt.alloc(), &TWO_AT_ONCE);
+// Runs the workers of a row: what is found of it.
+fn run_row<R: Threads + Wait + Clock + Sync>(rt: &R, alloc: Global, row: &Row) -> Found {
+    let tally = Tally::new(rt, row);
+    let (workers, _, _, _) = *row;
+    let counts = match workers {
+        0 => None,
+        workers => match run_with(rt, alloc, workers, &tally) {
+            Ok(counts) => Some([counts.leaders, counts.available, counts.journal]),
+            Err(_refused) => None,
+        },
+    };
+    let counted = [
+        read(&tally.begun),
+        read(&tally.holds),
+        read(&tally.alone),
+        read(&tally.tries),
+        read(&tally.granted),
+        read(&tally.wrong),
+    ];
+    (counts, counted)
 }
 
 #[test]
 fn workers_are_watched(rt: HostRuntime) {
     for row in &ROWS {
-        watch(&rt, rt.alloc(), row);
+        let found = run_row(&rt, rt.alloc(), row);
+        same!(rt; (*row, found), (*row, expected(row)));
     }
-}
-
-// Fails the test where the workers of a row do or count something else than it says.
-fn watch<R: Threads + Wait + Sync + Abort>(rt: &R, alloc: Global, row: &'static Row) {
-    let tally = Tally::new(row);
-    let counts = run_tallied(rt, alloc, &tally);
-    assert!(rt; counts == row.counts, "where {}", row.story);
-    compare_tally(rt, &tally);
-}
-
-// Runs the workers of a row.
-fn run_tallied<R: Threads + Wait + Sync>(
-    rt: &R,
-    alloc: Global,
-    tally: &Tally<'_>,
-) -> Option<Counts> {
-    match tally.row.workers {
-        0 => None,
-        workers => run_with(rt, alloc, workers, tally).ok(),
-    }
-}
-
-// Fails the test where something else was counted than the row says.
-fn compare_tally<R: Abort>(rt: &R, tally: &Tally<'_>) {
-    let row = tally.row;
-    assert!(rt;
-        tally.has_met.load(Ordering::SeqCst),
-        "worker 1 has not begun beside worker 0"
-    );
-    compare(rt, row, "begun", &tally.begun, row.begun);
-    compare(rt, row, "holds", &tally.holds, row.holds);
-    assert!(rt;
-        tally.alone.load(Ordering::SeqCst) >= row.alone,
-        "too few had two of 63"
-    );
-    compare(rt, row, "tries", &tally.tries, row.tries);
-    compare(rt, row, "granted", &tally.granted, row.granted);
-    compare(rt, row, "stolen", &tally.stolen, row.steals);
-    compare(rt, row, "early", &tally.early, 0);
-    compare(rt, row, "torn", &tally.torn, 0);
-}
-
-// Fails the test where something was counted otherwise than so.
-fn compare<R: Abort>(rt: &R, row: &Row, what: &str, counted: &AtomicU64, wanted: u64) {
-    let counted = counted.load(Ordering::SeqCst);
-    assert!(rt; counted == wanted, "where {}: {what} {counted}", row.story);
 }
