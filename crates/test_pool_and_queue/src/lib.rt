@@ -1,6 +1,6 @@
 //! Tests of the pool of values and of the bounded queue: of what no contract says, since it is under a mutex, or passes between threads.
 //!
-//! Stories (`pool_stories`, `queue_stories`) are text in the language of `test_language`. `places` says what a pool and a queue answer to its
+//! Stories (`stories`) are text in the language of `test_language`. `places` says what a pool and a queue answer to its
 //! words, and `player` plays the stories. In `sharing` threads share the values of a pool, and trade items in a queue.
 #![tactic(auto)]
 
@@ -9,8 +9,6 @@ mod places;
 #[cfg(test)]
 mod player;
 #[cfg(test)]
-mod pool_stories;
-#[cfg(test)]
-mod queue_stories;
-#[cfg(test)]
 mod sharing;
+#[cfg(test)]
+mod stories;

@@ -1,8 +1,8 @@
 //! What a pool and a queue answer to the words of a story, and the ways to wait.
 //!
 //! `check_out`, `push` and `pop` are said in each way: `try_pop`, `pop`, `pop_for 1h`, `pop_until 1h`, `pop_async`; and `pop_by 4` in the way of that
-//! turn. In place of `check_out`, whose guard puts the value back, `keep` keeps it, `replace` has one ten times as large, and `shrink` none. A refused
-//! push that didn't hand its item back answers `?`.
+//! turn. In place of `check_out`, whose guard puts the value back, `keep` keeps it, `replace` has one ten times as large, and `shrink` none. A refusal
+//! that doesn't say why as it must answers `another text`, and a refused push that didn't hand its item back `?`.
 
 use futures::executor::block_on;
 use futures::task::Poll;
@@ -10,36 +10,27 @@ use futures::test::MockTask;
 use saa_sync_pool::{CheckingOut, Checkout, Pool, Refused};
 use saa_sync_queue::{PopError, Popping, PushError, Pushing, Queue};
 use std::alloc::{AllocGlobal, Global};
+use std::fmt::{Debug, Display};
 use std::io;
 use std::random::RandomSource;
 use std::sync::Wait;
+use std::thread::Threads;
 use std::time::{Clock, Duration, Instant};
 use test_language::language::Call;
 use test_language::reply::{Replies, Reply, ReplyWord, number, unknown, word};
 
-/// A way to wait, or not to wait.
-#[derive(Clone, Copy, Debug)]
-pub(crate) enum Way {
-    Try,
-    Block,
-    For,
-    Until,
-    Task,
-}
+/// A runtime on which stories are played.
+pub(crate) trait Host: Wait + Clock + Threads + Sync + RandomSource + AllocGlobal {}
 
-static WAYS: [Way; 5] = [Way::Try, Way::Block, Way::For, Way::Until, Way::Task];
+impl<H: Wait + Clock + Threads + Sync + RandomSource + AllocGlobal> Host for H {}
 
-// How verbs end that are said in these ways.
-static ENDINGS: [(&str, Way); 3] = [
-    ("_for", Way::For),
-    ("_until", Way::Until),
-    ("_async", Way::Task),
-];
+// The ways not to wait, and to wait, by what the verbs end with that are said in them; `try` is ahead of its verb.
+static WAYS: [&str; 5] = ["try", "_for", "_until", "_async", ""];
 
 /// What is tried: in which way, what is done, with which item, and for how long a timed call waits.
 #[derive(Clone, Copy, Debug)]
 pub(crate) struct Attempt<'t> {
-    pub(crate) way: Way,
+    pub(crate) way: &'static str,
     pub(crate) deed: &'t str,
     pub(crate) item: usize,
     pub(crate) long: Duration,
@@ -60,53 +51,52 @@ impl<'t> Attempt<'t> {
     /// The same with this item, in the way of this turn.
     pub(crate) fn in_turn(self, turn: usize, item: usize) -> Self {
         Attempt {
-            way: *WAYS.get(turn % 5).unwrap_or(&Way::Block),
+            way: way_in(turn),
             item,
             ..self
         }
     }
+}
 
-    /// The same, in one of the four ways that wait.
-    pub(crate) fn waiting(self, turn: usize, item: usize) -> Self {
-        self.in_turn(turn % 4 + 1, item)
-    }
+// The way of this turn.
+fn way_in(turn: usize) -> &'static str {
+    *WAYS.get(turn % 5).unwrap_or(&"")
 }
 
 // In which way a verb is said, and what is done.
-fn way_of<'t>(call: &Call<'t>) -> (Way, &'t str) {
+fn way_of<'t>(call: &Call<'t>) -> (&'static str, &'t str) {
     if let Some(deed) = call.verb.strip_prefix("try_") {
-        return (Way::Try, deed);
+        return ("try", deed);
     }
     if let Some(deed) = call.verb.strip_suffix("_by") {
-        return (*WAYS.get(call.pager()).unwrap_or(&Way::Block), deed);
+        return (way_in(call.pager()), deed);
     }
-    for (ending, way) in &ENDINGS {
-        if let Some(deed) = call.verb.strip_suffix(*ending) {
+    for way in &WAYS {
+        if let Some(deed) = call.verb.strip_suffix(*way) {
             return (*way, deed);
         }
     }
-    (Way::Block, call.verb)
+    ("", call.verb)
 }
 
 /// A pool or a queue, by reference, whose futures are these.
-pub(crate) trait Place<H, F>: Copy {
+pub(crate) trait Place<H, F: Drop>: Copy {
     /// Makes a call that may wait. An error is the clock's, or the executor's.
     fn attempt(self, rt: &H, attempt: &Attempt<'_>) -> io::Result<Reply>;
 
-    /// Makes another call; `None` where it is none.
-    fn call(self, alloc: Global, call: &Call<'_>) -> Option<Reply>;
-
-    /// How many wait to do this.
-    fn waiting(self, deed: &str) -> usize;
+    /// Makes a call that doesn't wait, or one that may.
+    fn call(self, rt: &H, call: &Call<'_>) -> Reply;
 
     /// A future.
     fn begin(self, call: &Call<'_>) -> F;
 
     /// What one poll of a future by a task answers.
-    fn polled(self, future: &mut F, task: &MockTask) -> Reply;
+    fn polled(self, alloc: Global, future: &mut F, task: &MockTask) -> Reply;
 
-    /// Ends a future; the item that it hands back.
-    fn ended(self, future: F) -> Option<usize>;
+    /// Ends a future: the item that it hands back, or none.
+    fn ended(self, _future: F) -> Reply {
+        word(ReplyWord::None)
+    }
 }
 
 // The instant at which the time of a call is up.
@@ -116,31 +106,52 @@ fn end<H: Clock>(rt: &H, long: Duration) -> io::Result<Instant> {
 }
 
 /// What is checked out of a pool.
-pub(crate) fn checked_out<'p, 'r, H: Wait + Clock + RandomSource + AllocGlobal, const MAX: usize>(
+pub(crate) fn checked_out<'p, 'r, H: Host, const MAX: usize>(
     rt: &H,
     pool: &'p Pool<'r, H, usize, MAX>,
     attempt: &Attempt<'_>,
 ) -> io::Result<Result<Checkout<'p, 'r, H, usize, MAX>, Refused>> {
     Ok(match attempt.way {
-        Way::Try => pool.try_check_out(),
-        Way::Block => pool.check_out(),
-        Way::For => pool.check_out_for(attempt.long),
-        Way::Until => pool.check_out_until(end(rt, attempt.long)?),
-        Way::Task => block_on(rt, pool.check_out_async())?,
+        "try" => pool.try_check_out(),
+        "_for" => pool.check_out_for(attempt.long),
+        "_until" => pool.check_out_until(end(rt, attempt.long)?),
+        "_async" => block_on(rt, pool.check_out_async())?,
+        _ => pool.check_out(),
+    })
+}
+
+// What a refusal of a pool, a push or a pop answers, by its name, if it says why.
+fn refused<E: Debug + Display>(alloc: Global, of: &str, why: &E) -> Reply {
+    let Ok(text) = format!(in alloc; "{why:?}: {why}") else {
+        return unknown();
+    };
+    let (name, said) = text.as_str().split_once(": ").unwrap_or(("", ""));
+    let (name, _item) = name.split_once('(').unwrap_or((name, ""));
+    word(match (of, name, said) {
+        ("pool", "Closed", "the pool is closed") => ReplyWord::Closed,
+        ("push", "Closed", "the queue is closed") => ReplyWord::Closed,
+        ("pop", "Closed", "the queue is closed, and all items were taken") => ReplyWord::Closed,
+        ("pool", "WouldWait", "no value is in, and the caller doesn't wait") =>
+            ReplyWord::WouldBlock,
+        ("push", "WouldWait", "there is no place, and the caller doesn't wait") =>
+            ReplyWord::WouldBlock,
+        ("pop", "WouldWait", "there is no item, and the caller doesn't wait") =>
+            ReplyWord::WouldBlock,
+        (_, "TooLate", "the caller waited for as long as it would") => ReplyWord::TimedOut,
+        (_, "Full", "it would have to wait, and every slot for waiters is held") => ReplyWord::Full,
+        _ => ReplyWord::AnotherText,
     })
 }
 
 // What is done with a value that is checked out, if it is: its number is answered, or how many are left.
 fn done<H: Wait, const MAX: usize>(
+    alloc: Global,
     checked_out: Result<Checkout<'_, '_, H, usize, MAX>, Refused>,
     deed: &str,
 ) -> Reply {
     let checkout = match checked_out {
         Ok(checkout) => checkout,
-        Err(Refused::Closed) => return word(ReplyWord::Closed),
-        Err(Refused::WouldWait) => return word(ReplyWord::WouldBlock),
-        Err(Refused::TooLate) => return word(ReplyWord::TimedOut),
-        Err(Refused::Full) => return word(ReplyWord::Full),
+        Err(why) => return refused(alloc, "pool", &why),
     };
     match deed {
         "keep" => number(checkout.keep()),
@@ -170,22 +181,23 @@ fn drained<H: Wait, const MAX: usize>(
     Some(digits)
 }
 
-impl<'p, 'r, H: Wait + Clock + RandomSource + AllocGlobal, const MAX: usize> Place<
-    H,
-    CheckingOut<'p, 'r, H, usize, MAX>,
-> for &'p Pool<'r, H, usize, MAX> {
+type AtPool<'p, 'r, H, const MAX: usize> = CheckingOut<'p, 'r, H, usize, MAX>;
+
+impl<'p, 'r, H: Host, const MAX: usize> Place<H, AtPool<'p, 'r, H, MAX>>
+    for &'p Pool<'r, H, usize, MAX> {
     fn attempt(self, rt: &H, attempt: &Attempt<'_>) -> io::Result<Reply> {
-        Ok(done(checked_out(rt, self, attempt)?, attempt.deed))
+        let checked_out = checked_out(rt, self, attempt)?;
+        Ok(done(rt.alloc(), checked_out, attempt.deed))
     }
 
-    fn call(self, alloc: Global, call: &Call<'_>) -> Option<Reply> {
+    fn call(self, rt: &H, call: &Call<'_>) -> Reply {
         let counts = self.counts();
-        Some(match call.verb {
+        match call.verb {
             "add" => self.add(call.pager()).is_ok().reply(),
             "give_back" => self.give_back(call.pager()).is_ok().reply(),
             "close" => self.close().reply(),
             "is_closed" => self.is_closed().reply(),
-            "drain" => number(drained(alloc, self)?),
+            "drain" => drained(rt.alloc(), self).map_or(unknown(), number),
             "inside" => number(counts.inside),
             "out" => number(self.out()),
             "values" => number(counts.values()),
@@ -193,50 +205,40 @@ impl<'p, 'r, H: Wait + Clock + RandomSource + AllocGlobal, const MAX: usize> Pla
             "waiting" => number(counts.waiting),
             "served" => number(counts.served as usize),
             "timed_out" => number(counts.timed_out as usize),
-            _ => return None,
-        })
-    }
-
-    fn waiting(self, _deed: &str) -> usize {
-        self.counts().waiting
-    }
-
-    fn begin(self, _call: &Call<'_>) -> CheckingOut<'p, 'r, H, usize, MAX> {
-        self.check_out_async()
-    }
-
-    fn polled(self, future: &mut CheckingOut<'p, 'r, H, usize, MAX>, task: &MockTask) -> Reply {
-        match task.poll(future) {
-            Poll::Ready(checked_out) => done(checked_out, ""),
-            Poll::Pending => word(ReplyWord::Pending),
+            _ => self.attempt(rt, &Attempt::of(call)).unwrap_or(unknown()),
         }
     }
 
-    fn ended(self, _future: CheckingOut<'p, 'r, H, usize, MAX>) -> Option<usize> {
-        None
+    fn begin(self, _call: &Call<'_>) -> AtPool<'p, 'r, H, MAX> {
+        self.check_out_async()
+    }
+
+    fn polled(self, alloc: Global, future: &mut AtPool<'p, 'r, H, MAX>, task: &MockTask) -> Reply {
+        match task.poll(future) {
+            Poll::Ready(checked_out) => done(alloc, checked_out, ""),
+            Poll::Pending => word(ReplyWord::Pending),
+        }
     }
 }
 
-// What a push of this item answers.
-fn push_reply(pushed: Result<(), PushError<usize>>, item: usize) -> Reply {
-    let (why, back) = match pushed {
-        Ok(()) => return word(ReplyWord::Ok),
-        Err(PushError::Closed(back)) => (ReplyWord::Closed, back),
-        Err(PushError::WouldWait(back)) => (ReplyWord::WouldBlock, back),
-        Err(PushError::TooLate(back)) => (ReplyWord::TimedOut, back),
-        Err(PushError::Full(back)) => (ReplyWord::Full, back),
+// What a push of this item answers, which hands it back if it is refused.
+fn push_reply(alloc: Global, pushed: Result<(), PushError<usize>>, item: usize) -> Reply {
+    let Err(why) = pushed else {
+        return word(ReplyWord::Ok);
     };
-    if back == item { word(why) } else { unknown() }
+    let answered = refused(alloc, "push", &why);
+    if why.into_item() == item {
+        answered
+    } else {
+        unknown()
+    }
 }
 
 // What a pop answers.
-fn pop_reply(popped: Result<usize, PopError>) -> Reply {
+fn pop_reply(alloc: Global, popped: Result<usize, PopError>) -> Reply {
     match popped {
         Ok(item) => number(item),
-        Err(PopError::Closed) => word(ReplyWord::Closed),
-        Err(PopError::WouldWait) => word(ReplyWord::WouldBlock),
-        Err(PopError::TooLate) => word(ReplyWord::TimedOut),
-        Err(PopError::Full) => word(ReplyWord::Full),
+        Err(why) => refused(alloc, "pop", &why),
     }
 }
 
@@ -262,52 +264,41 @@ type AtQueue<'q, 'r, H, const MAX: usize> = Trading<
     Popping<'q, &'r H, usize, MAX>,
 >;
 
-impl<'q, 'r, H: Wait + Clock + RandomSource + AllocGlobal, const MAX: usize> Place<
-    H,
-    AtQueue<'q, 'r, H, MAX>,
-> for &'q Queue<&'r H, usize, MAX> {
+impl<'q, 'r, H: Host, const MAX: usize> Place<H, AtQueue<'q, 'r, H, MAX>>
+    for &'q Queue<&'r H, usize, MAX> {
     fn attempt(self, rt: &H, attempt: &Attempt<'_>) -> io::Result<Reply> {
-        let Attempt {
-            way,
-            deed,
-            item,
-            long,
-        } = *attempt;
-        if deed == "push" {
-            let pushed = match way {
-                Way::Try => self.try_push(item),
-                Way::Block => self.push(item),
-                Way::For => self.push_for(item, long),
-                Way::Until => self.push_until(item, end(rt, long)?),
-                Way::Task => block_on(rt, self.push_async(item))?,
+        let (item, long) = (attempt.item, attempt.long);
+        if attempt.deed == "push" {
+            let pushed = match attempt.way {
+                "try" => self.try_push(item),
+                "_for" => self.push_for(item, long),
+                "_until" => self.push_until(item, end(rt, long)?),
+                "_async" => block_on(rt, self.push_async(item))?,
+                _ => self.push(item),
             };
-            return Ok(push_reply(pushed, item));
+            return Ok(push_reply(rt.alloc(), pushed, item));
         }
-        Ok(pop_reply(match way {
-            Way::Try => self.try_pop(),
-            Way::Block => self.pop(),
-            Way::For => self.pop_for(long),
-            Way::Until => self.pop_until(end(rt, long)?),
-            Way::Task => block_on(rt, self.pop_async())?,
-        }))
+        let popped = match attempt.way {
+            "try" => self.try_pop(),
+            "_for" => self.pop_for(long),
+            "_until" => self.pop_until(end(rt, long)?),
+            "_async" => block_on(rt, self.pop_async())?,
+            _ => self.pop(),
+        };
+        Ok(pop_reply(rt.alloc(), popped))
     }
 
-    fn call(self, _alloc: Global, call: &Call<'_>) -> Option<Reply> {
-        Some(match call.verb {
+    fn call(self, rt: &H, call: &Call<'_>) -> Reply {
+        let (producers, consumers) = (self.waiting_producers(), self.waiting_consumers());
+        match call.verb {
             "close" => self.close().reply(),
             "is_closed" => self.is_closed().reply(),
             "len" => number(self.len()),
             "is_empty" => self.is_empty().reply(),
-            "producers" => number(self.waiting_producers()),
-            "consumers" => number(self.waiting_consumers()),
-            _ => return None,
-        })
-    }
-
-    fn waiting(self, deed: &str) -> usize {
-        match deed {
-            "push" => self.waiting_producers(),
-            _ => self.waiting_consumers(),
+            "producers" => number(producers),
+            "consumers" => number(consumers),
+            "waiting" => number(producers.saturating_add(consumers)),
+            _ => self.attempt(rt, &Attempt::of(call)).unwrap_or(unknown()),
         }
     }
 
@@ -318,24 +309,24 @@ impl<'q, 'r, H: Wait + Clock + RandomSource + AllocGlobal, const MAX: usize> Pla
         }
     }
 
-    fn polled(self, future: &mut AtQueue<'q, 'r, H, MAX>, task: &MockTask) -> Reply {
+    fn polled(self, alloc: Global, future: &mut AtQueue<'q, 'r, H, MAX>, task: &MockTask) -> Reply {
         let item = future.item();
         match future {
             Trading::Push(_item, push) => match task.poll(push) {
-                Poll::Ready(pushed) => push_reply(pushed, item),
+                Poll::Ready(pushed) => push_reply(alloc, pushed, item),
                 Poll::Pending => word(ReplyWord::Pending),
             },
             Trading::Pop(pop) => match task.poll(pop) {
-                Poll::Ready(popped) => pop_reply(popped),
+                Poll::Ready(popped) => pop_reply(alloc, popped),
                 Poll::Pending => word(ReplyWord::Pending),
             },
         }
     }
 
-    fn ended(self, future: AtQueue<'q, 'r, H, MAX>) -> Option<usize> {
+    fn ended(self, future: AtQueue<'q, 'r, H, MAX>) -> Reply {
         match future {
-            Trading::Push(_item, push) => push.into_item(),
-            Trading::Pop(_pop) => None,
+            Trading::Push(_item, push) => push.into_item().map_or(word(ReplyWord::None), number),
+            Trading::Pop(_pop) => word(ReplyWord::None),
         }
     }
 }

@@ -6,19 +6,16 @@
 
 ghost use Rattle.std.specs.Prelude.{◌<◌};
 
-use crate::places::{Attempt, Place};
-use crate::{pool_stories, queue_stories};
+use crate::places::{Attempt, Host, Place};
+use crate::stories::{POOL, QUEUE};
 use futures::test::MockTask;
 use saa_sync_pool::Pool;
 use saa_sync_queue::Queue;
-use std::alloc::AllocGlobal;
 use std::io;
-use std::random::RandomSource;
-use std::sync::Wait;
 use std::sync::atomic::{AtomicUsize, Ordering};
 use std::test::Fail;
-use std::thread::{self, Threads, yield_now};
-use std::time::{Clock, Duration};
+use std::thread::{self, yield_now};
+use std::time::Duration;
 use test_asserts::same;
 use test_language::language::{Call, Failed, Move, Subject, moves_for, numbers_of};
 use test_language::reply::{Replies, Reply, ReplyWord, number, unknown, word};
@@ -34,62 +31,36 @@ const WRONG: usize = 100;
 struct Player<R, T, F: Drop> {
     rt: R,
     place: T,
-    tasks: Vec<MockTask>,
+    tasks: [MockTask; 3],
     futures: Vec<Option<F>>,
 }
 
-impl<'r, H, T, F> Player<&'r H, T, F>
-where
-    H: Wait + Clock + Threads + Sync + RandomSource + AllocGlobal,
-    T: Place<H, F> + Sync,
-    F: Drop,
-{
-    fn new(rt: &'r H, place: T) -> io::Result<Self> {
-        let mut tasks = Vec::new(rt.alloc());
-        let mut futures = Vec::new(rt.alloc());
-        for _name in 0..3 {
-            tasks.push(MockTask::new(rt)?)?;
-            futures.push(None)?;
-        }
-        Ok(Player {
-            rt,
-            place,
-            tasks,
-            futures,
-        })
-    }
-
+impl<H: Host, F: Drop, T: Place<H, F> + Sync> Player<&H, T, F> {
     // Makes the move of a row.
     fn answer(&mut self, call: &Call<'_>) -> Reply {
         match call.subject {
-            Subject::Task(task) => match self.tasks.get(task) {
-                Some(task) => task.is_woken().reply(),
-                None => unknown(),
-            },
+            Subject::Task(task) => self.tasks[task % 3].is_woken().reply(),
             Subject::Future(name) => self.at_future(name, call),
             Subject::Crowd => crowd(self.rt, self.place, call),
             _ if call.verb == "repeat" => repeated(self.rt, self.place, call),
-            _ => called(self.rt, self.place, call),
+            _ => self.place.call(self.rt, call),
         }
     }
 
     // Makes a future, or makes a call at one.
     fn at_future(&mut self, name: usize, call: &Call<'_>) -> Reply {
-        let (Some(slot), Some(task)) = (self.futures.get_mut(name), self.tasks.get(call.task))
-        else {
+        let task = &self.tasks[call.task % 3];
+        let Some(slot) = self.futures.get_mut(name) else {
             return unknown();
         };
         match (call.verb, slot) {
-            ("poll", Some(future)) => self.place.polled(future, task),
+            ("poll", Some(future)) => self.place.polled(self.rt.alloc(), future, task),
             ("drop", slot) => {
                 *slot = None;
                 word(ReplyWord::Dropped)
             }
             ("end", slot) => match slot.take() {
-                Some(future) => {
-                    let item = self.place.ended(future);
-                    item.map_or(word(ReplyWord::None), number)
-                }
+                Some(future) => self.place.ended(future),
                 None => unknown(),
             },
             (_, slot) => {
@@ -100,19 +71,11 @@ where
     }
 }
 
-// Makes a call of its own, or one that may wait.
-fn called<H: AllocGlobal, F, T: Place<H, F>>(rt: &H, place: T, call: &Call<'_>) -> Reply {
-    match place.call(rt.alloc(), call) {
-        Some(answered) => answered,
-        None => place.attempt(rt, &Attempt::of(call)).unwrap_or(unknown()),
-    }
-}
-
 // Makes a call for each number from 1 on: how many are done, or answer their number.
-fn repeated<H: AllocGlobal, F, T: Place<H, F>>(rt: &H, place: T, call: &Call<'_>) -> Reply {
+fn repeated<H: Host, F: Drop, T: Place<H, F>>(rt: &H, place: T, call: &Call<'_>) -> Reply {
     let mut right = 0usize;
     for own in 1..=call.pager() {
-        let answered = called(rt, place, &Call::with(call.then().verb, own));
+        let answered = place.call(rt, &Call::with(call.then().verb, own));
         let is_right = answered.is("true") || answered.number() == Some(own);
         right = right.saturating_add(usize::from(is_right));
     }
@@ -120,11 +83,7 @@ fn repeated<H: AllocGlobal, F, T: Place<H, F>>(rt: &H, place: T, call: &Call<'_>
 }
 
 // How many of a crowd are answered as they must be.
-fn crowd<H, F, T>(rt: &H, place: T, call: &Call<'_>) -> Reply
-where
-    H: Wait + Clock + Threads + Sync + AllocGlobal,
-    T: Place<H, F> + Sync,
-{
+fn crowd<H: Host, F: Drop, T: Place<H, F> + Sync>(rt: &H, place: T, call: &Call<'_>) -> Reply {
     let ended = AtomicUsize::new(0);
     let right = thread::map_indices(
         rt,
@@ -148,20 +107,15 @@ where
     number(sum)
 }
 
-// Waits until so many wait.
-fn await_waiting<H: Wait, F, T: Place<H, F>>(rt: &H, place: T, call: &Call<'_>, wanted: usize) {
+// Waits until so many of a crowd wait, or have ended.
+fn await_crowd<H, F: Drop, T>(rt: &H, place: T, ended: &AtomicUsize, wanted: usize)
+where
+    H: Host,
+    T: Place<H, F>,
+{
     for _ in rt.forever() {
-        if place.waiting(call.verb) >= wanted {
-            return;
-        }
-        yield_now();
-    }
-}
-
-// Waits until so many have ended.
-fn await_ended<H: Wait>(rt: &H, ended: &AtomicUsize, wanted: usize) {
-    for _ in rt.forever() {
-        if ended.load(Ordering::SeqCst) >= wanted {
+        let waiting = place.call(rt, &Call::of("waiting")).number().unwrap_or(0);
+        if waiting.saturating_add(ended.load(Ordering::SeqCst)) >= wanted {
             return;
         }
         yield_now();
@@ -169,13 +123,13 @@ fn await_ended<H: Wait>(rt: &H, ended: &AtomicUsize, wanted: usize) {
 }
 
 // One of a crowd, from 1 on, makes the call once those before it wait: 1 if it is let in after them, with its number, or answered `closed`.
-fn sleep<H, F, T>(rt: &H, place: T, call: &Call<'_>, ended: &AtomicUsize, own: usize) -> usize
+fn sleep<H, F: Drop, T>(rt: &H, place: T, call: &Call<'_>, ended: &AtomicUsize, own: usize) -> usize
 where
-    H: Wait,
+    H: Host,
     T: Place<H, F>,
 {
-    await_waiting(rt, place, call, own.saturating_sub(1));
-    let attempt = Attempt::of(call).waiting(own, own);
+    await_crowd(rt, place, ended, own.saturating_sub(1));
+    let attempt = Attempt::of(call).in_turn(own % 4 + 1, own);
     let answered = place.attempt(rt, &attempt).unwrap_or(unknown());
     let turn = ended.fetch_add(1, Ordering::SeqCst).saturating_add(1);
     let is_let_in = answered.is("ok") || answered.number() == Some(own);
@@ -186,41 +140,45 @@ where
 }
 
 // Lets a crowd in one by one, or closes: 0 if each call is done, or takes what came before the one that it lets in.
-fn let_in<H, F, T>(rt: &H, place: T, call: &Call<'_>, ended: &AtomicUsize) -> usize
+fn let_in<H, F: Drop, T>(rt: &H, place: T, call: &Call<'_>, ended: &AtomicUsize) -> usize
 where
-    H: Wait + Clock + AllocGlobal,
+    H: Host,
     T: Place<H, F>,
 {
-    await_waiting(rt, place, call, call.crowd);
+    await_crowd(rt, place, ended, call.crowd);
     thread::sleep(rt, Duration::from_millis(ASLEEP));
     let then = call.then().verb;
-    if then == "close" {
-        return if called(rt, place, &Call::of(then)).is("true") {
-            0
-        } else {
-            WRONG
-        };
-    }
+    let calls = if then == "close" { 1 } else { call.crowd };
     let mut wrong = 0usize;
-    for own in 1..=call.crowd {
-        let answered = called(rt, place, &Call::with(then, own));
+    for own in 1..=calls {
+        let answered = place.call(rt, &Call::with(then, own));
         let is_done = answered.is("true") || answered.is("ok");
         if !is_done && answered.number() != Some(own.saturating_sub(1)) {
             wrong = WRONG;
         }
-        await_ended(rt, ended, own);
+        await_crowd(rt, place, ended, call.crowd);
     }
     wrong
 }
 
+type Outcome<'t> = io::Result<Option<Failed<'t>>>;
+
 // Plays a story at a place: the first row that is answered otherwise.
-fn played<'t, H, F, T>(rt: &H, place: T, rows: &[Move<'t>]) -> io::Result<Option<Failed<'t>>>
-where
-    H: Wait + Clock + Threads + Sync + RandomSource + AllocGlobal,
-    T: Place<H, F> + Sync + Drop,
-    F: Drop,
-{
-    let mut player = Player::new(rt, place)?;
+fn played<'t, H: Host, F: Drop, T: Place<H, F> + Sync + Drop>(
+    rt: &H,
+    place: T,
+    rows: &[Move<'t>],
+) -> Outcome<'t> {
+    let mut futures = Vec::new(rt.alloc());
+    for _name in 0..3 {
+        futures.push(None)?;
+    }
+    let mut player = Player {
+        rt,
+        place,
+        tasks: [MockTask::new(rt)?, MockTask::new(rt)?, MockTask::new(rt)?],
+        futures,
+    };
     for row in rows {
         let failed = Failed::unless(row, player.answer(&row.call));
         if failed.is_some() {
@@ -230,59 +188,36 @@ where
     Ok(None)
 }
 
-fn at_pool<'t, H, const MAX: usize>(
-    rt: &H,
-    room: u16,
-    rows: &[Move<'t>],
-) -> io::Result<Option<Failed<'t>>>
-where
-    H: Wait + Clock + Threads + Sync + RandomSource + AllocGlobal,
+// Plays a story at a pool or a queue for so many.
+fn at<'t, H: Host, const MAX: usize>(rt: &H, line: &Call<'_>, rows: &[Move<'t>]) -> Outcome<'t>
     requires bound { 0 < MAX }
     requires narrow { MAX < 65536 }
 {
-    let pool = Pool::<_, usize, MAX>::new(rt, rt.alloc(), room)?;
-    played(rt, &pool, rows)
-}
-
-fn at_queue<'t, H, const MAX: usize>(
-    rt: &H,
-    room: u16,
-    rows: &[Move<'t>],
-) -> io::Result<Option<Failed<'t>>>
-where
-    H: Wait + Clock + Threads + Sync + RandomSource + AllocGlobal,
-    requires bound { 0 < MAX }
-    requires narrow { MAX < 65536 }
-{
+    let room = line.room(1);
+    if line.verb == "pool" {
+        let pool = Pool::<_, usize, MAX>::new(rt, rt.alloc(), room)?;
+        return played(rt, &pool, rows);
+    }
     let queue = Queue::<_, usize, MAX>::new(rt, rt.alloc(), room)?;
     played(rt, &queue, rows)
 }
 
 // Plays a story for this number, at what its first line makes.
-fn played_for<'t, H>(rt: &H, story: &'t str, each: usize) -> io::Result<Option<Failed<'t>>>
-where
-    H: Wait + Clock + Threads + Sync + RandomSource + AllocGlobal,
-{
+fn played_for<'t, H: Host>(rt: &H, story: &'t str, each: usize) -> Outcome<'t> {
     let moves = moves_for(rt.alloc(), story, each)?;
     let Some((first, rows)) = moves.split_first() else {
         return Ok(None);
     };
-    let room = first.call.room(1);
-    match (first.call.verb, first.call.pager()) {
-        ("pool", 1) => at_pool::<H, 1>(rt, room, rows),
-        ("pool", 2) => at_pool::<H, 2>(rt, room, rows),
-        ("pool", _) => at_pool::<H, 500>(rt, room, rows),
-        (_, 1) => at_queue::<H, 1>(rt, room, rows),
-        (_, 2) => at_queue::<H, 2>(rt, room, rows),
-        _ => at_queue::<H, 5>(rt, room, rows),
+    match first.call.pager() {
+        1 => at::<H, 1>(rt, &first.call, rows),
+        2 => at::<H, 2>(rt, &first.call, rows),
+        5 => at::<H, 5>(rt, &first.call, rows),
+        _ => at::<H, 500>(rt, &first.call, rows),
     }
 }
 
 // The first row of these stories that is answered otherwise.
-fn first_failed<'t, H>(rt: &H, stories: &'t str) -> io::Result<Option<Failed<'t>>>
-where
-    H: Wait + Clock + Threads + Sync + RandomSource + AllocGlobal,
-{
+fn first_failed<'t, H: Host>(rt: &H, stories: &'t str) -> Outcome<'t> {
     for story in stories.split("\n\n") {
         for each in numbers_of(rt.alloc(), story)? {
             let failed = played_for(rt, story, each)?;
@@ -295,15 +230,8 @@ where
 }
 
 #[test]
-fn a_pool_answers(rt: HostRuntime) -> Result<(), Fail> {
-    same!(rt; first_failed(&rt, pool_stories::ALONE)?, None);
-    same!(rt; first_failed(&rt, pool_stories::WAITS)?, None);
-    Ok(())
-}
-
-#[test]
-fn a_queue_answers(rt: HostRuntime) -> Result<(), Fail> {
-    same!(rt; first_failed(&rt, queue_stories::ALONE)?, None);
-    same!(rt; first_failed(&rt, queue_stories::WAITS)?, None);
+fn a_pool_and_a_queue_answer(rt: HostRuntime) -> Result<(), Fail> {
+    same!(rt; first_failed(&rt, POOL)?, None);
+    same!(rt; first_failed(&rt, QUEUE)?, None);
     Ok(())
 }

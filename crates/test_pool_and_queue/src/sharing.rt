@@ -1,17 +1,16 @@
-//! Threads that share the values of a pool, and threads that trade items in a queue; and what a refusal says.
+//! Threads that share the values of a pool, and threads that trade items in a queue.
 
-use crate::places::{Attempt, Place, Way, checked_out};
-use saa_sync_pool::{Checkout, Pool, Refused};
-use saa_sync_queue::{PopError, PushError, Queue};
-use std::alloc::{AllocError, AllocGlobal, Global};
+use crate::places::{Attempt, Host, Place, checked_out};
+use saa_sync_pool::{Checkout, Pool};
+use saa_sync_queue::Queue;
 use std::io;
-use std::random::RandomSource;
 use std::sync::Wait;
 use std::sync::atomic::{AtomicUsize, Ordering};
-use std::thread::{self, Threads, yield_now};
-use std::time::{Clock, Duration};
+use std::thread::{self, yield_now};
+use std::time::Duration;
 use test_asserts::same;
 use test_language::language::Call;
+use test_language::reply::unknown;
 
 // How many threads share three values, and how often each tries to have one.
 const SHARERS: usize = 6;
@@ -86,7 +85,7 @@ fn count_up<H: Wait>(
 
 // Takes a value again and again, in each way in turn: how often it had one, how often another thread had it too, and how many calls that wait
 // were refused.
-fn share<H: Wait + Clock + RandomSource + AllocGlobal>(
+fn share<H: Host>(
     rt: &H,
     pool: &Pool<'_, H, usize, 3>,
     holders: &[AtomicUsize; 3],
@@ -99,7 +98,7 @@ fn share<H: Wait + Clock + RandomSource + AllocGlobal>(
             had = had.saturating_add(1);
             shared = shared.saturating_add(held_with_others(holders, *checkout));
             count_up(pool, checkout, turn);
-        } else if !matches!(attempt.way, Way::Try) {
+        } else if attempt.way != "try" {
             refused = refused.saturating_add(1);
         }
     }
@@ -108,9 +107,7 @@ fn share<H: Wait + Clock + RandomSource + AllocGlobal>(
 
 // What comes of threads that share the values 0, 1 and 2: how often one was had twice at once, and a call that waits refused; how many are in
 // and out; whether each turn is counted by the pool and in a value; and how many of each value there are, as digits.
-fn shared_by_threads<H: Threads + Wait + Clock + RandomSource + AllocGlobal + Sync>(
-    rt: &H,
-) -> io::Result<([usize; 4], [bool; 2], usize)> {
+fn shared_by_threads<H: Host>(rt: &H) -> io::Result<([usize; 5], bool)> {
     let pool = Pool::<_, usize, 3>::new(rt, rt.alloc(), SHARERS as u16)?;
     let holders = [
         AtomicUsize::new(0),
@@ -132,50 +129,45 @@ fn shared_by_threads<H: Threads + Wait + Clock + RandomSource + AllocGlobal + Sy
         tens = tens.saturating_add(value / 10);
         digits = digits.saturating_add(*[1, 10, 100].get(value % 10).unwrap_or(&1000));
     }
-    let are_counted = [tens == turns, counts.served as usize == turns];
-    Ok((
-        [shared, refused, counts.inside, counts.out],
-        are_counted,
-        digits,
-    ))
+    let is_counted = (tens, counts.served as usize) == (turns, turns);
+    let found = [shared, refused, counts.inside, counts.out, digits];
+    Ok((found, is_counted))
 }
 
 #[test]
 fn threads_never_hold_one_value_at_once_and_lose_none(rt: HostRuntime) {
     let found = shared_by_threads(&rt).expect(&rt, "memory");
-    same!(rt; found, ([0, 0, 3, 0], [true; 2], 111));
+    same!(rt; found, ([0, 0, 3, 0, 111], true));
 }
 
-// Pushes all items of a producer: how many aren't taken.
-fn produce<H: Wait + Clock + RandomSource + AllocGlobal>(
+// Pushes all items of a producer in each way that waits: how many aren't taken. The last producer closes the queue.
+fn produce<H: Host>(
     rt: &H,
     queue: &Queue<&H, usize, 3>,
+    producers: &AtomicUsize,
     producer: usize,
-) -> usize {
+) -> [usize; 4] {
     let mut refused = 0usize;
     for own in 0..ITEMS {
         let item = producer.wrapping_mul(1000).wrapping_add(own);
-        let attempt = trying("push").waiting(own.wrapping_add(producer), item);
-        let is_taken = matches!(queue.attempt(rt, &attempt), Ok(answered) if answered.is("ok"));
-        refused = refused.saturating_add(usize::from(!is_taken));
+        let attempt = trying("push").in_turn(own.wrapping_add(producer) % 4 + 1, item);
+        let answered = queue.attempt(rt, &attempt).unwrap_or(unknown());
+        refused = refused.saturating_add(usize::from(!answered.is("ok")));
     }
-    refused
+    if producers.fetch_sub(1, Ordering::SeqCst) == 1 {
+        queue.close();
+    }
+    [0, 0, 0, refused]
 }
 
-// Pops until nothing comes: how many items it had, their sum, how many came after a later one of the same producer, and 1 if that isn't
-// the end.
-fn consume<H: Wait + Clock + RandomSource + AllocGlobal>(
-    rt: &H,
-    queue: &Queue<&H, usize, 3>,
-    consumer: usize,
-) -> [usize; 4] {
+// Pops in each way that waits until nothing comes: how many items it had, their sum, how many came after a later one of the same producer, and 1 if
+// that isn't the end.
+fn consume<H: Host>(rt: &H, queue: &Queue<&H, usize, 3>, consumer: usize) -> [usize; 4] {
     let mut next = [0usize; TRADERS];
     let [mut had, mut sum, mut late] = [0usize; 3];
     for turn in 0..usize::MAX {
-        let attempt = trying("pop").waiting(turn.wrapping_add(consumer), 0);
-        let Ok(answered) = queue.attempt(rt, &attempt) else {
-            break;
-        };
+        let attempt = trying("pop").in_turn(turn.wrapping_add(consumer) % 4 + 1, 0);
+        let answered = queue.attempt(rt, &attempt).unwrap_or(unknown());
         let Some(item) = answered.number() else {
             return [had, sum, late, usize::from(!answered.is("closed"))];
         };
@@ -189,34 +181,21 @@ fn consume<H: Wait + Clock + RandomSource + AllocGlobal>(
     [had, sum, late, 1]
 }
 
-// A producer's part, of which the last closes the queue, or a consumer's.
-fn trade<H: Wait + Clock + RandomSource + AllocGlobal>(
-    rt: &H,
-    queue: &Queue<&H, usize, 3>,
-    producers: &AtomicUsize,
-    thread: usize,
-) -> [usize; 4] {
-    if thread >= TRADERS {
-        return consume(rt, queue, thread);
-    }
-    let refused = produce(rt, queue, thread);
-    if producers.fetch_sub(1, Ordering::SeqCst) == 1 {
-        queue.close();
-    }
-    [0, 0, 0, refused]
-}
-
 // What comes of producers and consumers that trade in a queue for three items, and how many are left.
-fn traded<H: Threads + Wait + Clock + RandomSource + AllocGlobal + Sync>(
-    rt: &H,
-) -> io::Result<([usize; 4], usize)> {
+fn traded<H: Host>(rt: &H) -> io::Result<([usize; 4], usize)> {
     let queue = Queue::<_, usize, 3>::new(rt, rt.alloc(), TRADERS as u16)?;
     let producers = AtomicUsize::new(TRADERS);
     let counted = thread::map_indices(
         rt,
         rt.alloc(),
         2 * TRADERS,
-        &|thread| trade(rt, &queue, &producers, thread),
+        &|thread| {
+            if thread < TRADERS {
+                produce(rt, &queue, &producers, thread)
+            } else {
+                consume(rt, &queue, thread)
+            }
+        },
     )?;
     Ok((sums(counted.as_slice()), queue.len()))
 }
@@ -225,37 +204,4 @@ fn traded<H: Threads + Wait + Clock + RandomSource + AllocGlobal + Sync>(
 fn all_that_is_pushed_is_popped_once_and_in_order(rt: HostRuntime) {
     let found = traded(&rt).expect(&rt, "memory");
     same!(rt; found, ([600, 4 * 11_175, 0, 0], 0));
-}
-
-// What each refusal says: of a pool, a pop and a push, on a line each.
-fn refusals(alloc: Global) -> Result<String, AllocError> {
-    format!(in alloc;
-        "{}; {}; {}; {}\n{}; {}; {}; {}\n{}; {}; {}; {}",
-        Refused::Closed,
-        Refused::WouldWait,
-        Refused::TooLate,
-        Refused::Full,
-        PopError::Closed,
-        PopError::WouldWait,
-        PopError::TooLate,
-        PopError::Full,
-        PushError::Closed(1),
-        PushError::WouldWait(2),
-        PushError::TooLate(3),
-        PushError::Full(4)
-    )
-}
-
-const REFUSALS: &str = "\
-the pool is closed; no value is in, and the caller doesn't wait; the caller waited for as long as it would; \
-it would have to wait, and every slot for waiters is held
-the queue is closed, and all items were taken; there is no item, and the caller doesn't wait; the caller waited for as long as it would; \
-it would have to wait, and every slot for waiters is held
-the queue is closed; there is no place, and the caller doesn't wait; the caller waited for as long as it would; \
-it would have to wait, and every slot for waiters is held";
-
-#[test]
-fn refusals_say_why(rt: HostRuntime) {
-    let said = refusals(rt.alloc()).expect(&rt, "memory");
-    same!(rt; said.as_str(), REFUSALS);
 }
