@@ -24,7 +24,7 @@ pub(crate) trait Host: Wait + Clock + Threads + Sync + RandomSource + AllocGloba
 
 impl<H: Wait + Clock + Threads + Sync + RandomSource + AllocGlobal> Host for H {}
 
-// The ways not to wait, and to wait, by what the verbs end with that are said in them; `try` is ahead of its verb.
+// The ways not to wait, and to wait, by how verbs end that are said in them; `try` stands ahead of its verb, and who waits for ever says nothing.
 static WAYS: [&str; 5] = ["try", "_for", "_until", "_async", ""];
 
 /// What is tried: in which way, what is done, with which item, and for how long a timed call waits.

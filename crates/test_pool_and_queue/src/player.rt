@@ -35,7 +35,7 @@ struct Player<R, T, F: Drop> {
     futures: Vec<Option<F>>,
 }
 
-impl<H: Host, F: Drop, T: Place<H, F> + Sync> Player<&H, T, F> {
+impl<'r, H: Host, F: Drop, T: Place<H, F> + Sync> Player<&'r H, T, F> {
     // Makes the move of a row.
     fn answer(&mut self, call: &Call<'_>) -> Reply {
         match call.subject {

@@ -14,7 +14,8 @@ use test_asserts::same;
 // For how many milliseconds a worker looks out for another at most: one that was just started may take a while to come.
 const PATIENCE: u16 = 10_000;
 
-// How many milliseconds worker 1 is late, where it is to be: time enough for the others to do all that they do without it.
+// How many milliseconds worker 1 is late, where it is to be, and the first that can't be started: time enough for the others to do all that they do
+// without it.
 const LATE: u64 = 50;
 
 // How many workers there are, how many of them can be started, how many permits are taken for good, one at a time, while a worker holds some, and
@@ -145,6 +146,9 @@ impl<'t, R: Clock> Tally<'t, R> {
 impl<R: Clock> Watch for Tally<'_, R> {
     fn may_start(&self, worker: u8) -> bool {
         let (_, allowed, _, _) = *self.row;
+        if worker == allowed {
+            thread::sleep(self.rt, Duration::from_millis(LATE));
+        }
         worker < allowed
     }
 
