@@ -51,10 +51,6 @@ crowd N acquire_with; pause; crowd N ended -> 0; crowd N joined -> N; try 0 -> f
 each 1 24
 semaphore 1 N
 crowd N acquire_with 2; pause; crowd N ended -> 0; crowd N joined -> N; try 0 -> false; in_turn N release 2 -> N; available -> 1
-
-# All that sleep are told that it was shut.
-semaphore 0 24 sleepy
-crowd 24 acquire -> closed; shut; crowd 24 ends; parked -> 0; available -> 0
 ";
 
 /// A permit that goes wakes the next; and a task that joined between two threads is granted between them.
@@ -160,7 +156,7 @@ lock 1 spins 1
 crowd 6 chaos_full 200 begins -> 200; crowd 6 ends; meetings -> 0; try_lock; room -> 1
 ";
 
-/// Threads that stamp their turns: who has joined the queue is passed by no later call.
+/// Threads that stamp their turns: a call that has joined the queue is passed by no later call.
 pub(crate) const STAMPS: &str = "\
 each 0 1
 lock 4 spins N

@@ -5,14 +5,15 @@
 pub(crate) const ALONE: &str = "\
 # Permits in time. A permit of its own goes back, and none is there where time is up.
 bounded 65535 3 1 1ns
-acquire_for 0ns; acquire_for 1 0ns; acquire_for 65536 ever -> false; acquire_for 2 0ns -> timed_out; available -> 1; acquire_for 1000 0ns -> timed_out
+acquire_for ever; acquire_for 1 0ns; acquire_for 65536 ever -> false; acquire_for 2 0ns -> timed_out; available -> 1; acquire_for 1000 0ns -> timed_out
 acquire_for 0ns; acquire_for 0ns -> timed_out; available -> 0; release; permit_for 0ns forget -> 0; permit_for 0ns -> timed_out; release; available -> 1
+permit_for 0ns -> 0; permit_for ever -> 0; available -> 1
 
 # Some of all there are, and then the rest; and all at once.
 bounded 65535 65535 1 1ns
 acquire_for 65536 0ns -> false; acquire_for 18446744073709551615 0ns -> false; acquire_for 0 0ns; available -> 65535; acquire_for 1001 0ns
 available -> 64534; acquire_for 64535 9ns -> timed_out; acquire_for 65535 0ns -> timed_out; available -> 64534; acquire_for 31766 0ns; available -> 32768
-acquire_for 32769 0ns -> timed_out; acquire_for 32767 0ns; available -> 1; release 65534; acquire_for 65535 0ns; acquire_for 1 9ns -> timed_out
+acquire_for 32769 0ns -> timed_out; acquire_for 32767 ever; available -> 1; release 65534; acquire_for 65535 0ns; acquire_for 1 9ns -> timed_out
 acquire_for 65536 0ns -> false; available -> 0
 
 # No permits are there at once, and nothing is taken; but behind a waiter they are waited for as any others.
@@ -21,7 +22,7 @@ bounded 65535 0 2 1ns
 acquire_for 0 0ns -> timed_out; acquire_for 0 9ns -> timed_out; try_poll 0 -> not_ready; release; poll_for 0 0ns; available -> 0
 # A pager whose time is up stays registered; an answer that is there is taken whatever the time.
 - poll_for 0 ever -> not_registered; reg 0 1 sync; poll_for 0 9ns -> timed_out; poll_for 0 0ns -> timed_out; registered 0; release; poll_for 0 0ns
-registered 0 -> false; poll_for 0 0ns -> not_registered; reg 0 1 async; poll_for 0 ever -> wrong_mode; available -> 0
+registered 0 -> false; poll_for 0 0ns -> not_registered; release; reg 0 1 sync; poll_for 0 ever; reg 0 1 async; poll_for 0 ever -> wrong_mode; available -> 0
 
 # A broken clock ends a wait.
 bounded 65535 1 1 0ns
@@ -29,8 +30,16 @@ clock broken; acquire_for ever; acquire_for ever -> timed_out; clock 0ns; clock 
 
 # A lock, whose sharers leave as they came.
 lock 1 1ns
-lock_for 0ns; lock_for 0ns -> timed_out; share_for 0ns -> timed_out; release_lock; share_for 0ns; lock_for 0ns -> timed_out; share_for 0ns; share_for 0ns
-release_share; release_share; release_share; is_free; lock_for 0ns; poison_lock; lock_for 0ns -> false; share_for 0ns -> false
+lock_for 0ns; lock_for 0ns -> timed_out; share_for 0ns -> timed_out; release_lock; share_for 0ns; lock_for 0ns -> timed_out; share_for 0ns; share_for ever
+release_share; release_share; release_share; is_free; lock_for ever; is_locked; poison_lock; lock_for 0ns -> false; lock_for ever -> false
+share_for 0ns -> false; share_for ever -> false
+
+# A gate, open and sealed, and a barrier of one.
+gate 0 1ns
+open -> controlled 0; enter_for 0ns -> ok open; enter_for ever -> ok open; seal -> open 0; enter_for 0ns -> sealed; enter_for ever -> sealed
+
+barrier 1 0 1ns
+wait_for 0ns; wait_for ever; count -> 1
 ";
 
 /// Calls that would have to wait where there is no room. A poll of a pager has its slot already, and is never told so.
@@ -61,24 +70,18 @@ reg 0 1 sync; acquire_for 0ns -> full; acquire_for ever -> full; acquire_for 2 0
 acquire_for 0 ever -> full; permit_for 0ns -> full; permit_for ever -> full; try_poll 0 -> not_ready; release; poll_for 0 0ns; available -> 0
 ";
 
-/// Each timed call six times: granted while it is parked; late, no earlier than its time; late by a clock that stands still until another waits behind it, of a
-/// while, and of an hour of which all but a while is over at once; and answered at once, with no time left, and with all there is.
+/// Each timed call four times: granted while it is parked; late, no earlier than its time; and late by a clock that stands still until another waits behind it, of
+/// a while, and of an hour of which all but a while is over at once.
 pub(crate) const EVERY_CALL: &str = "\
 # A lock.
 lock 2 looking
 - try_share; t1 lock_for 1h; rests; release_share; t1 ends; is_locked; release_lock; is_free
 - try_share; lock_for 3ms -> timed_out; release_share; is_free
-- lock_for 0ns; is_locked; release_lock; is_free
-- lock_for ever; is_locked; release_lock; is_free
 # A share.
 - try_lock; t1 share_for 1h; rests; release_lock; t1 ends; release_share; is_free
 - try_lock; share_for 3ms -> timed_out; is_locked; release_lock; is_free
-- share_for 0ns; release_share; is_free
-- share_for ever; release_share; is_free
 # A share of a lock that is poisoned.
 - try_lock; t1 share_for 1h -> false; rests; poison_lock; t1 ends
-- try_lock; poison_lock; share_for 0ns -> false
-- try_lock; poison_lock; share_for ever -> false
 
 # A lock.
 lock 2 0ns looking
@@ -113,19 +116,6 @@ bounded 65535 0 2 0ns looking
 - t1 reg 0 1 sync; t1 poll_for 0 10500777ns -> timed_out; reg 0 1 sync; clock 10500776ns; pause; parked -> 1; clock 10500777ns; t1 ends; try_poll 0 -> not_ready; release; poll_for 0 0ns; available -> 0
 - t1 reg 0 1 sync; leap 3599989499223ns; t1 poll_for 0 1h -> timed_out; reg 0 1 sync; clock 3599999999999ns; pause; parked -> 1; clock 1h; t1 ends; try_poll 0 -> not_ready; release; poll_for 0 0ns; available -> 0
 
-# One permit.
-bounded 65535 1 2 looking
-- acquire_for 0ns; available -> 0
-- acquire_for ever; available -> 0
-# No permits behind a waiter.
-- acquire_for 0 0ns; available -> 1
-- acquire_for 0 ever; available -> 1
-# A pager.
-- reg 2 1 sync; poll_for 2 0ns; available -> 0
-- reg 2 1 sync; poll_for 2 ever; available -> 0
-# A permit that gives itself back.
-- permit_for 0ns -> 0; permit_for ever -> 0; available -> 1
-
 # 300 permits.
 bounded 65535 250 2 looking
 - t1 acquire_for 300 1h; rests; release 100; t1 ends; available -> 50; release 300; available -> 350
@@ -135,20 +125,12 @@ bounded 65535 250 2 0ns looking
 - t1 acquire_for 300 10500777ns -> timed_out; reg 0 1 sync; clock 10500776ns; pause; parked -> 1; clock 10500777ns; t1 ends; poll_for 0 0ns; available -> 249
 - leap 3599989499223ns; t1 acquire_for 300 1h -> timed_out; reg 0 1 sync; clock 3599999999999ns; pause; parked -> 1; clock 1h; t1 ends; poll_for 0 0ns; available -> 249
 
-bounded 65535 301 2 looking
-- acquire_for 300 0ns; available -> 1
-- acquire_for 300 ever; available -> 1
-
 # A passing.
 gate 2 looking
 - t1 enter_for 1h -> ok controlled; rests; permit -> ok 1; t1 ends; permit -> ok 0
 - enter_for 3ms -> timed_out; enter_for 0ns -> timed_out; permit -> ok 0
-- open -> controlled 0; enter_for 0ns -> ok open; seal -> open 0
-- open -> controlled 0; enter_for ever -> ok open; seal -> open 0
 # A passing that is rejected.
 - t1 enter_for 1h -> rejected; rests; reject -> ok 1; t1 ends; permit -> ok 0
-- open -> controlled 0; seal -> open 0; enter_for 0ns -> sealed
-- open -> controlled 0; seal -> open 0; enter_for ever -> sealed
 
 # A passing.
 gate 2 0ns looking
@@ -163,10 +145,6 @@ barrier 2 2 looking
 barrier 2 2 0ns looking
 - t1 wait_for 10500777ns -> timed_out; clock 10500776ns; pause; parked -> 1; clock 10500777ns; t1 ends; count -> 2; wait_for 0ns -> timed_out
 - leap 3599989499223ns; t1 wait_for 1h -> timed_out; clock 3599999999999ns; pause; parked -> 1; clock 1h; t1 ends; count -> 2; wait_for 0ns -> timed_out
-
-barrier 1 2 looking
-- wait_for 0ns; count -> 1
-- wait_for ever; count -> 1
 ";
 
 /// Parked waiters, some of which are late: those behind them are granted at once, and no permit is lost.
