@@ -120,40 +120,35 @@ fn timed_calls_end_in_time(rt: HostRuntime) -> Result<(), Fail> {
     Ok(())
 }
 
-// The player itself: a row that is answered otherwise is found with its line, what it expects and what was answered, also where another thread is answered.
-static WRONG: [(&str, &str, &str, ReplyWord); 3] = [
-    (
-        "semaphore 1 0\ntry 0; try; try",
-        "try",
-        "done",
-        ReplyWord::False,
-    ),
-    (
-        "semaphore 1 0\ntry -> true; try -> full",
-        "try",
-        "full",
-        ReplyWord::False,
-    ),
-    (
-        "lock 1\nlock; t1 lock -> false; release_lock; t1 ends",
-        "t1 lock",
-        "false",
-        ReplyWord::True,
-    ),
-];
+// This row, which is answered so.
+fn wrong(
+    line: &'static str,
+    row: &'static str,
+    expected: &'static str,
+    answered: ReplyWord,
+) -> Option<Failed<'static>> {
+    let answered = word(answered);
+    Some(Failed {
+        line,
+        row,
+        expected,
+        answered,
+    })
+}
 
+// The player itself: a row that is answered otherwise is found with its line, what it expects and what was answered, also where another thread is answered.
 #[test]
 fn a_row_that_is_answered_otherwise_is_found(rt: HostRuntime) -> Result<(), Fail> {
-    for (story, row, expected, answered) in &WRONG {
-        let (_first, line) = story.split_once('\n').unwrap_or(("", ""));
-        let answered = word(*answered);
-        let wanted = Failed {
-            line,
-            row,
-            expected,
-            answered,
-        };
-        same!(rt; first_failed(&rt, Threaded, story)?, Some(wanted));
-    }
+    let failed = first_failed(&rt, Threaded, "semaphore 1 0\ntry 0; try; try")?;
+    same!(rt; failed, wrong("try 0; try; try", "try", "done", ReplyWord::False));
+    let failed = first_failed(&rt, Threaded, "semaphore 1 0\ntry -> true; try -> full")?;
+    same!(rt; failed, wrong("try -> true; try -> full", "try", "full", ReplyWord::False));
+    let line = "lock; t1 lock -> false; release_lock; t1 ends";
+    let failed = first_failed(
+        &rt,
+        Threaded,
+        "lock 1\nlock; t1 lock -> false; release_lock; t1 ends",
+    )?;
+    same!(rt; failed, wrong(line, "t1 lock", "false", ReplyWord::True));
     Ok(())
 }
