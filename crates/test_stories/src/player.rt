@@ -153,8 +153,8 @@ impl<'s, H: Host, S: Form<T, Q> + Sync + Drop, T: Drop + Send, Q: Reads> Player<
                 number(chaos::rounds(self.rt, form, &stage.tally, self.thread, call))
             }
             "meetings" => number(stage.tally.meetings.load(Ordering::SeqCst)),
-            "stamped" => number(stamps::turns(form, &stage.log, self.thread, count)),
-            "passed" => number(stage.log.passed()),
+            "stamped" => number(stamps::turns(form, &stage.log, count)),
+            "passed" => number(stage.log.passed.load(Ordering::SeqCst)),
             "race" => number(races::in_time(form, &stage.tally, count)),
             "disturb" => number(races::beside(form, &stage.tally)),
             _ => self.in_time(call),

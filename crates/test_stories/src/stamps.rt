@@ -1,86 +1,47 @@
-//! Order by a shared clock: no later call overtakes one that has joined the queue.
+//! Order by a shared clock: a call that has joined the queue is passed by no later call.
 //!
-//! Threads take turns, by pagers and by calls that block. Each stamps when its call began, when it was registered, and when it had its turn.
-//! A call that began after another one was registered has its turn after that one, whatever the spin policy: a call that spins is in no queue, and overtakes
-//! nobody who is.
+//! Threads take turns, by pagers and by calls that block. A call that began after another one was registered has its turn after that one, whatever the spin
+//! policy: a call that spins is in no queue, and overtakes nobody who is.
 
 use crate::forms::{Form, Reads};
 use saa_core_waits::Pager;
-use std::alloc::{AllocError, Global};
 use std::sync::atomic::{AtomicUsize, Ordering};
 use std::thread::yield_now;
 use test_language::language::Call;
 use test_language::reply::{Replies, Reply, ReplyWord, word};
 
-// The stamps of a turn: as its call began, as it was registered, and as it was had. A call that blocks doesn't say when it is registered.
-#[derive(Drop)]
-struct Turn {
-    began: AtomicUsize,
-    registered: AtomicUsize,
-    had: AtomicUsize,
-}
-
-/// The clock, and the stamps of all turns.
+/// The clock, the latest beginning of the calls that have had their turn, and how often a turn was passed.
 #[derive(Drop)]
 pub(crate) struct Log {
     clock: AtomicUsize,
-    turns: Vec<Turn>,
+    latest: AtomicUsize,
+    pub(crate) passed: AtomicUsize,
 }
 
 impl Log {
-    /// The stamps of so many turns, none of which is had.
-    pub(crate) fn new(alloc: Global, count: usize) -> Result<Self, AllocError> {
-        let mut turns = Vec::new(alloc);
-        for _ in 0..count {
-            turns.push(Turn {
-                began: AtomicUsize::new(usize::MAX),
-                registered: AtomicUsize::new(usize::MAX),
-                had: AtomicUsize::new(usize::MAX),
-            })?;
-        }
-        Ok(Log {
+    pub(crate) fn new() -> Self {
+        Log {
             clock: AtomicUsize::new(0),
-            turns,
-        })
-    }
-
-    // Writes the time there.
-    fn stamp(&self, at: &AtomicUsize) {
-        let now = self.clock.fetch_add(1, Ordering::SeqCst);
-        at.store(now, Ordering::SeqCst);
-    }
-
-    // How many turns passed this one: their calls began after it was registered, and they were had before it.
-    fn passed_by(&self, turn: &Turn) -> usize {
-        let registered = turn.registered.load(Ordering::SeqCst);
-        let had = turn.had.load(Ordering::SeqCst);
-        let mut passed = 0usize;
-        for other in &self.turns {
-            let is_later = registered < other.began.load(Ordering::SeqCst);
-            if is_later && other.had.load(Ordering::SeqCst) < had {
-                passed = passed.saturating_add(1);
-            }
+            latest: AtomicUsize::new(0),
+            passed: AtomicUsize::new(0),
         }
-        passed
     }
 
-    /// How often a turn was passed.
-    pub(crate) fn passed(&self) -> usize {
-        let mut passed = 0usize;
-        for turn in &self.turns {
-            passed = passed.saturating_add(self.passed_by(turn));
+    // The time, which goes on.
+    fn now(&self) -> usize {
+        self.clock.fetch_add(1, Ordering::SeqCst)
+    }
+
+    // A call that began and was registered then has its turn: it was passed if one that began later has had its own.
+    fn has_turn(&self, began: usize, registered: usize) {
+        if self.latest.fetch_max(began, Ordering::SeqCst) > registered {
+            self.passed.fetch_add(1, Ordering::SeqCst);
         }
-        passed
     }
 }
 
-/// The turns of one thread, each second one by a call that blocks: how many were had.
-pub(crate) fn turns<S: Form<T, Q>, T: Drop, Q: Reads>(
-    form: &S,
-    log: &Log,
-    thread: usize,
-    rounds: usize,
-) -> usize {
+/// The turns of one thread, each second one by a call that blocks, which doesn't say when it is registered: how many were had.
+pub(crate) fn turns<S: Form<T, Q>, T: Drop, Q: Reads>(form: &S, log: &Log, rounds: usize) -> usize {
     let is_lock = form.call(&Call::of("available")).is("?");
     let (call, end) = if is_lock {
         ("lock", "release_lock")
@@ -89,18 +50,14 @@ pub(crate) fn turns<S: Form<T, Q>, T: Drop, Q: Reads>(
     };
     let mut had = 0usize;
     for round in 0..rounds {
-        let place = thread.wrapping_mul(rounds).wrapping_add(round);
-        let Some(turn) = log.turns.get(place) else {
-            break;
-        };
-        log.stamp(&turn.began);
-        let answer = if round.is_multiple_of(2) {
-            paged(form, log, turn)
+        let began = log.now();
+        let (answer, registered) = if round.is_multiple_of(2) {
+            paged(form, log)
         } else {
-            form.call(&Call::of(call))
+            (form.call(&Call::of(call)), usize::MAX)
         };
         if answer.is("true") || answer.is("ok") {
-            log.stamp(&turn.had);
+            log.has_turn(began, registered);
             had = had.saturating_add(1);
             yield_now();
             form.call(&Call::of(end));
@@ -109,12 +66,13 @@ pub(crate) fn turns<S: Form<T, Q>, T: Drop, Q: Reads>(
     had
 }
 
-// A turn by a pager: of one permit, or of the lock alone.
-fn paged<S: Form<T, Q>, T: Drop, Q: Reads>(form: &S, log: &Log, turn: &Turn) -> Reply {
+// A turn by a pager, of one permit or of the lock alone: its answer, and when it was registered.
+fn paged<S: Form<T, Q>, T: Drop, Q: Reads>(form: &S, log: &Log) -> (Reply, usize) {
     let mut pager = Pager::new();
     if form.enroll(&mut pager, &Call::asking(1)) != Ok(true) {
-        return word(ReplyWord::False);
+        return (word(ReplyWord::Full), usize::MAX);
     }
-    log.stamp(&turn.registered);
-    pager.poll_sync().reply()
+    let registered = log.now();
+    let answer = pager.poll_sync().reply();
+    (answer, registered)
 }

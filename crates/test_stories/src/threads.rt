@@ -52,7 +52,7 @@ impl Stage {
             joined: AtomicUsize::new(0),
             calls: AtomicUsize::new(0),
             tally: Tally::new(),
-            log: Log::new(alloc, stamped_turns(moves))?,
+            log: Log::new(),
             has_failed: AtomicBool::new(false),
         })
     }
@@ -272,14 +272,4 @@ fn others_of(moves: &[Move<'_>]) -> usize {
         });
     }
     others
-}
-
-// How many turns of theirs have stamps.
-fn stamped_turns(moves: &[Move<'_>]) -> usize {
-    for row in moves {
-        if row.call.verb == "stamped" {
-            return others_of(moves).saturating_mul(row.call.number().unwrap_or(0));
-        }
-    }
-    0
 }
