@@ -8,7 +8,7 @@ use std::time::{Clock, Duration};
 /// The permission to block of a runtime, and a clock of its own, in nanoseconds, or the runtime's clock.
 #[derive(Drop)]
 pub struct OnClock<R: Wait + Clock + Drop> {
-    rt: R,
+    pub(crate) rt: R,
     /// Whether it shows the runtime's time.
     pub(crate) is_real: bool,
     now: AtomicU64,

@@ -27,9 +27,10 @@ pub(crate) enum Kind {
     Until,
 }
 
-// What the first line says of a form but its primitive: for how many waiters there is room, and how calls and waiters spin.
+// What the first line says of a form but its primitive: its permits or tasks, for how many waiters there is room, and how calls and waiters spin.
 #[derive(Clone, Copy)]
 struct Made {
+    size: usize,
     room: u16,
     calls: SpinPolicy,
     waiters: SpinPolicy,
@@ -39,9 +40,15 @@ fn policy(looks: u32, yields: u32) -> SpinPolicy {
     SpinPolicy { looks, yields }
 }
 
-// How calls and waiters spin where the first line says so; the number at this place is the room.
-fn made_of(line: &Call<'_>, at: usize) -> Made {
+// The last of the first line's numbers is the room, the one before it the size. How calls and waiters spin is said by a word behind them, if at all.
+fn made_of(line: &Call<'_>) -> Made {
     let then = line.then();
+    let [first, second, _] = line.numbers();
+    let (size, room) = match line.verb {
+        "bounded" => (second, line.room(2)),
+        "lock" | "gate" => (0, line.room(0)),
+        _ => (first, line.room(1)),
+    };
     // Longer than any test lasts.
     let (looks_on, yields_on) = (policy(u32::MAX, 0), policy(0, u32::MAX));
     let (calls, waiters) = match then.verb {
@@ -57,7 +64,8 @@ fn made_of(line: &Call<'_>, at: usize) -> Made {
         _ => (NONE, WAITER),
     };
     Made {
-        room: line.room(at),
+        size,
+        room,
         calls,
         waiters,
     }
@@ -85,14 +93,15 @@ where
 
 // The moves of a story at this form. The threads are begun for each form by itself: the borrow checker covers none that a function begins for any form.
 macro_rules! at_form {
-    ($rt:expr, $clock:expr, $form:expr, $moves:expr) => {{
-        let stage = Stage::new($rt.alloc(), Instant::now($clock)?, $moves)?;
+    ($clock:expr, $form:expr, $moves:expr) => {{
+        let rt = $clock.rt;
+        let stage = Stage::new(rt.alloc(), Instant::now($clock)?, $moves)?;
         match stage.others() {
-            0 => part_of($rt, $clock, &$form, &stage, $moves, 0),
+            0 => part_of($clock, &$form, &stage, $moves, 0),
             others => in_threads(
-                $rt,
+                rt,
                 others,
-                &|thread| part_of($rt, $clock, &$form, &stage, $moves, thread),
+                &|thread| part_of($clock, &$form, &stage, $moves, thread),
             ),
         }
     }};
@@ -100,82 +109,62 @@ macro_rules! at_form {
 
 // A story at a threaded semaphore of this bound.
 fn at_permits<'t, H: Host, const MAX: usize>(
-    rt: &H,
     clock: &OnClock<&H>,
-    permits: usize,
     made: Made,
     moves: &[Move<'t>],
 ) -> Outcome<'t>
     requires bound { 0 < MAX }
     requires narrow { MAX < 65536 }
 {
-    let core = SemaphoreCoreOf::<MAX>::with_permits(rt.alloc(), permits, made.room)?;
-    let form = form_of(clock, rt.alloc(), core, made.room, made.calls, made.waiters)?;
-    at_form!(rt, clock, form, moves)
+    let alloc = clock.rt.alloc();
+    let core = SemaphoreCoreOf::<MAX>::with_permits(alloc, made.size, made.room)?;
+    let form = form_of(clock, alloc, core, made.room, made.calls, made.waiters)?;
+    at_form!(clock, form, moves)
 }
 
 // A story at a lock-free semaphore of this bound.
 fn at_free_permits<'t, H: Host, const MAX: usize>(
-    rt: &H,
     clock: &OnClock<&H>,
-    permits: usize,
     made: Made,
     moves: &[Move<'t>],
 ) -> Outcome<'t>
     requires bound { 0 < MAX }
     requires narrow { MAX < 65536 }
 {
-    let (room, calls) = (made.room, made.calls);
-    let form = LockFree::<_, MAX>::with_spin_policy(clock, rt.alloc(), permits, room, calls)?;
-    at_form!(rt, clock, form, moves)
+    let (alloc, size, room) = (clock.rt.alloc(), made.size, made.room);
+    let form = LockFree::<_, MAX>::with_spin_policy(clock, alloc, size, room, made.calls)?;
+    at_form!(clock, form, moves)
 }
 
 // A story at a threaded lock.
-fn at_a_lock<'t, H: Host>(
-    rt: &H,
-    clock: &OnClock<&H>,
-    made: Made,
-    moves: &[Move<'t>],
-) -> Outcome<'t> {
-    let core = LockCore::new(rt.alloc(), made.room)?;
-    let form = form_of(clock, rt.alloc(), core, made.room, made.calls, made.waiters)?;
-    at_form!(rt, clock, form, moves)
+fn at_a_lock<'t, H: Host>(clock: &OnClock<&H>, made: Made, moves: &[Move<'t>]) -> Outcome<'t> {
+    let alloc = clock.rt.alloc();
+    let core = LockCore::new(alloc, made.room)?;
+    let form = form_of(clock, alloc, core, made.room, made.calls, made.waiters)?;
+    at_form!(clock, form, moves)
 }
 
 // A story at a lock-free lock.
-fn at_a_free_lock<'t, H: Host>(
-    rt: &H,
-    clock: &OnClock<&H>,
-    made: Made,
-    moves: &[Move<'t>],
-) -> Outcome<'t> {
-    let form = LockFreeLock::with_spin_policy(clock, rt.alloc(), made.room, made.calls)?;
-    at_form!(rt, clock, form, moves)
+fn at_a_free_lock<'t, H: Host>(clock: &OnClock<&H>, made: Made, moves: &[Move<'t>]) -> Outcome<'t> {
+    let alloc = clock.rt.alloc();
+    let form = LockFreeLock::with_spin_policy(clock, alloc, made.room, made.calls)?;
+    at_form!(clock, form, moves)
 }
 
 // A story at a gate.
-fn at_a_gate<'t, H: Host>(
-    rt: &H,
-    clock: &OnClock<&H>,
-    made: Made,
-    moves: &[Move<'t>],
-) -> Outcome<'t> {
-    let core = GateCore::new(rt.alloc(), made.room)?;
-    let form = form_of(clock, rt.alloc(), core, made.room, NONE, made.waiters)?;
-    at_form!(rt, clock, form, moves)
+fn at_a_gate<'t, H: Host>(clock: &OnClock<&H>, made: Made, moves: &[Move<'t>]) -> Outcome<'t> {
+    let alloc = clock.rt.alloc();
+    let core = GateCore::new(alloc, made.room)?;
+    let form = form_of(clock, alloc, core, made.room, NONE, made.waiters)?;
+    at_form!(clock, form, moves)
 }
 
 // A story at a barrier of this size.
-fn at_a_barrier<'t, H: Host>(
-    rt: &H,
-    clock: &OnClock<&H>,
-    size: usize,
-    made: Made,
-    moves: &[Move<'t>],
-) -> Outcome<'t> {
-    let core = BarrierCore::with_count(rt.alloc(), size, made.room)?;
-    let form = form_of(clock, rt.alloc(), core, made.room, NONE, made.waiters)?;
-    at_form!(rt, clock, form, moves)
+fn at_a_barrier<'t, H: Host>(clock: &OnClock<&H>, made: Made, moves: &[Move<'t>]) -> Outcome<'t> {
+    let alloc = clock.rt.alloc();
+    let core = BarrierCore::with_count(alloc, made.size, made.room)?;
+    let form = form_of(clock, alloc, core, made.room, NONE, made.waiters)?;
+    at_form!(clock, form, moves)
 }
 
 // A story at the form that its first line makes.
@@ -189,36 +178,35 @@ fn at_first_line<'t, H: Host>(
         Time::Lasts(_) => OnClock::new(rt, line.time.nanos()),
         _ => OnClock::real(rt),
     };
-    let [first, second, _] = line.numbers();
+    let made = made_of(line);
+    let [bound, _, _] = line.numbers();
     match (line.verb, kind) {
-        ("semaphore", _) => at_a_bound(rt, &clock, kind, 63, first, made_of(line, 1), moves),
-        ("bounded", _) => at_a_bound(rt, &clock, kind, first, second, made_of(line, 2), moves),
-        ("lock", Kind::LockFree) => at_a_free_lock(rt, &clock, made_of(line, 0), moves),
-        ("lock", _) => at_a_lock(rt, &clock, made_of(line, 0), moves),
-        ("gate", _) => at_a_gate(rt, &clock, made_of(line, 0), moves),
-        _ => at_a_barrier(rt, &clock, first, made_of(line, 1), moves),
+        ("semaphore", _) => at_a_bound(&clock, kind, 63, made, moves),
+        ("bounded", _) => at_a_bound(&clock, kind, bound, made, moves),
+        ("lock", Kind::LockFree) => at_a_free_lock(&clock, made, moves),
+        ("lock", _) => at_a_lock(&clock, made, moves),
+        ("gate", _) => at_a_gate(&clock, made, moves),
+        _ => at_a_barrier(&clock, made, moves),
     }
 }
 
 // A story at a semaphore of this bound.
 fn at_a_bound<'t, H: Host>(
-    rt: &H,
     clock: &OnClock<&H>,
     kind: Kind,
     bound: usize,
-    permits: usize,
     made: Made,
     moves: &[Move<'t>],
 ) -> Outcome<'t> {
     match (bound, kind) {
-        (1, Kind::LockFree) => at_free_permits::<H, 1>(rt, clock, permits, made, moves),
-        (63, Kind::LockFree) => at_free_permits::<H, 63>(rt, clock, permits, made, moves),
-        (1_000, Kind::LockFree) => at_free_permits::<H, 1_000>(rt, clock, permits, made, moves),
-        (_, Kind::LockFree) => at_free_permits::<H, 65_535>(rt, clock, permits, made, moves),
-        (1, _) => at_permits::<H, 1>(rt, clock, permits, made, moves),
-        (63, _) => at_permits::<H, 63>(rt, clock, permits, made, moves),
-        (1_000, _) => at_permits::<H, 1_000>(rt, clock, permits, made, moves),
-        _ => at_permits::<H, 65_535>(rt, clock, permits, made, moves),
+        (1, Kind::LockFree) => at_free_permits::<H, 1>(clock, made, moves),
+        (63, Kind::LockFree) => at_free_permits::<H, 63>(clock, made, moves),
+        (1_000, Kind::LockFree) => at_free_permits::<H, 1_000>(clock, made, moves),
+        (_, Kind::LockFree) => at_free_permits::<H, 65_535>(clock, made, moves),
+        (1, _) => at_permits::<H, 1>(clock, made, moves),
+        (63, _) => at_permits::<H, 63>(clock, made, moves),
+        (1_000, _) => at_permits::<H, 1_000>(clock, made, moves),
+        _ => at_permits::<H, 65_535>(clock, made, moves),
     }
 }
 

@@ -357,13 +357,13 @@ fn moved<'t, H: Host, S: Form<T, Q> + Sync + Drop, T: Drop + Send, Q: Reads>(
 
 /// One thread's part of a story. The story's own lets the others end.
 pub(crate) fn part_of<'t, 's, H: Host, S: Form<T, Q> + Sync + Drop, T: Drop + Send, Q: Reads>(
-    rt: &'s H,
     clock: &'s OnClock<&'s H>,
     form: &'s S,
     stage: &'s Stage,
     moves: &[Move<'t>],
     thread: usize,
 ) -> Outcome<'t> {
+    let rt = clock.rt;
     let outcome = match Tasks::new(rt) {
         Ok(tasks) => Ok(moved(
             &mut Player {
