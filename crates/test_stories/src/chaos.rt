@@ -210,9 +210,9 @@ fn page<S: Form<T, Q>, T: Drop, Q: Reads>(form: &S, turn: &Call<'static>, how: H
         _ => asked_by(turn),
     };
     let mut pager = Pager::new();
-    match form.enroll(&mut pager, &asked.of_pager(0, how != How::Async)) {
-        Ok(true) => {}
-        refused => return refused.reply(),
+    let registered = form.enroll(&mut pager, &asked.of_pager(0, how != How::Async));
+    if !registered.is("true") {
+        return registered;
     }
     match how {
         How::Sync => pager.poll_sync().reply(),

@@ -6,7 +6,6 @@ mod locks;
 mod semaphores;
 
 use futures::test::MockTask;
-use saa_core_spec::request::Full;
 use saa_core_waits::{Acquiring, AnswerReader, Pager, Pends, Timed};
 use std::alloc::AllocGlobal;
 use std::random::RandomSource;
@@ -16,9 +15,10 @@ use std::time::{Clock, Duration, Instant};
 use test_language::language::Call;
 use test_language::reply::{Replies, Reply, unknown};
 
-/// How long a timed call waits.
+/// How long a timed call waits; one that isn't waits for ever.
 #[derive(Clone, Copy)]
 pub(crate) enum Span {
+    Ever,
     For(Duration),
     Until(Instant),
 }
@@ -45,24 +45,21 @@ impl<Q: AnswerReader<Output: Replies, Error: Replies>> Reads for Q {}
 ///
 /// Each call is answered by what it replies, and `?` where it is none of this form.
 pub(crate) trait Form<T: Drop, Q: Reads>: Timed<T, Result: Replies> + Pends {
-    /// Readings, tries, releases, and calls that may block as long as they must.
-    fn call(&self, call: &Call<'_>) -> Reply;
-
-    /// Timed calls.
+    /// Readings, tries, releases, and calls that may block: so long if they are timed, and else as long as they must.
     fn call_in_time(&self, call: &Call<'_>, span: Span) -> Reply;
 
-    /// Makes a call that may block, or a future, with a callback; a future's task polls it once more where it is woken.
-    fn call_with<F: FnOnce() + Drop>(
-        &self,
-        caller: Caller<'_>,
-        call: &Call<'_>,
-        begin_wait: F,
-    ) -> Reply
-        requires callable { F.pre begin_wait }
-        requires always { (begin_wait : F) → F.pre begin_wait };
+    /// The same of a call that isn't timed.
+    fn call(&self, call: &Call<'_>) -> Reply {
+        self.call_in_time(call, Span::Ever)
+    }
+
+    /// Makes a call that may block, or a future, with a callback for as it begins to wait; a future's task polls it once more where it is woken.
+    fn call_with<F: FnOnce() + Drop>(&self, who: Caller<'_>, call: &Call<'_>, begin: F) -> Reply
+        requires callable { F.pre begin }
+        requires always { (begin : F) → F.pre begin };
 
     /// Registers a pager for what is asked.
-    fn enroll<'s>(&'s self, pager: &mut Pager<'s, Self, T>, call: &Call<'_>) -> Result<bool, Full>;
+    fn enroll<'s>(&'s self, pager: &mut Pager<'s, Self, T>, call: &Call<'_>) -> Reply;
 
     /// Whether the parker of a pager's slot is notified; nothing where it has none, or the form doesn't say.
     fn is_notified(&self, _pager: &Pager<'_, Self, T>) -> Option<bool> {

@@ -66,18 +66,20 @@ impl<'s, S: Timed<T, Result: Replies> + Drop, T: Drop> Pagers<'s, S, T> {
         }
     }
 
-    /// Polls a pager by a call of its own.
-    pub(crate) fn polled(&mut self, call: &Call<'_>) -> Reply {
+    /// Polls a pager by a call of its own, for so long if it is timed.
+    pub(crate) fn polled(&mut self, call: &Call<'_>, span: Span) -> Reply {
         let pager = self.get(call.pager());
-        match call.verb {
-            "try_poll" => pager.try_poll().reply(),
-            "poll_sync" => pager.poll_sync().reply(),
-            "poll_async" => pager.poll(How::Async).reply(),
+        match (call.verb, span) {
+            ("try_poll", _) => pager.try_poll().reply(),
+            ("poll_sync", _) => pager.poll_sync().reply(),
+            ("poll_async", _) => pager.poll(How::Async).reply(),
+            ("poll_for", Span::For(long)) => pager.poll_sync_for(long).reply(),
+            ("poll_until", Span::Until(end)) => pager.poll_sync_until(end).reply(),
             _ => unknown(),
         }
     }
 
-    /// Makes another call at a pager that isn't timed.
+    /// Makes another call at a pager.
     pub(crate) fn answer(&mut self, tasks: &Tasks, call: &Call<'_>) -> Reply {
         let pager = self.get(call.pager());
         match call.verb {
@@ -91,16 +93,6 @@ impl<'s, S: Timed<T, Result: Replies> + Drop, T: Drop> Pagers<'s, S, T> {
                 *pager = Pager::new();
                 word(ReplyWord::Dropped)
             }
-            _ => unknown(),
-        }
-    }
-
-    /// Polls a pager in time.
-    pub(crate) fn answer_in_time(&mut self, call: &Call<'_>, span: Span) -> Reply {
-        let pager = self.get(call.pager());
-        match (call.verb, span) {
-            ("poll_for", Span::For(long)) => pager.poll_sync_for(long).reply(),
-            ("poll_until", Span::Until(end)) => pager.poll_sync_until(end).reply(),
             _ => unknown(),
         }
     }

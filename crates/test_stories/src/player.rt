@@ -128,8 +128,8 @@ impl<'s, H: Host, S: Form<T, Q> + Sync + Drop, T: Drop + Send, Q: Reads> Player<
     fn at_pager(&mut self, call: &Call<'_>) -> Reply {
         let form = self.form;
         match call.verb {
-            "reg" => form.enroll(self.pagers.get(call.pager()), call).reply(),
-            "try_poll" | "poll_sync" | "poll_async" => self.pagers.polled(call),
+            "reg" => form.enroll(self.pagers.get(call.pager()), call),
+            "try_poll" | "poll_sync" | "poll_async" => self.pagers.polled(call, Span::Ever),
             "registered" | "poll" | "cancel" | "drop" => self.pagers.answer(&self.tasks, call),
             "block_on" => self.pagers.blocked(self.rt, call),
             "drop_away" => dropped_away(self.rt, self.pagers.get(call.pager())),
@@ -210,16 +210,14 @@ impl<'s, H: Host, S: Form<T, Q> + Sync + Drop, T: Drop + Send, Q: Reads> Player<
     // Makes a call that lasts so long if it is timed.
     fn at_span(&mut self, call: &Call<'_>, span: Span) -> Reply {
         let form = self.form;
-        match call.verb {
-            "poll_for" | "poll_until" => self.pagers.answer_in_time(call, span),
-            "take_permit"
-            | "hold_permit"
-            | "try_permit"
-            | "permit_for"
-            | "permit_until"
-            | "pass_permit" => form.with_permit(call, span, self.pagers.get(call.pager())),
-            _ => plain(form, call, span),
+        if matches!(call.verb, "poll_for" | "poll_until") {
+            return self.pagers.polled(call, span);
         }
+        let answer = form.call_in_time(call, span);
+        if answer.is("?") {
+            return form.with_permit(call, span, self.pagers.get(call.pager()));
+        }
+        answer
     }
 }
 
@@ -238,15 +236,6 @@ fn span_of(clock: &impl Clock, start: Instant, call: &Call<'_>, long: Duration) 
     }
     let now = Instant::now(clock).unwrap_or(start);
     Span::Until(now.checked_add(long.min(hour())).unwrap_or(now))
-}
-
-// Makes a call that needs nothing of a story.
-fn plain<S: Form<T, Q>, T: Drop, Q: Reads>(form: &S, call: &Call<'_>, span: Span) -> Reply {
-    let answer = form.call(call);
-    if answer.is("?") {
-        return form.call_in_time(call, span);
-    }
-    answer
 }
 
 // Whether the clock is hardly read for a while, since the call that is parked sleeps.
@@ -322,7 +311,7 @@ fn room_of<S: Form<T, Q>, T: Drop, Q: Reads>(alloc: Global, form: &S) -> Result<
     let mut pagers = Vec::new(alloc);
     for _waiter in 0..WAITERS {
         let mut pager = Pager::new();
-        if form.enroll(&mut pager, &Call::asking(1)) != Ok(true) {
+        if !form.enroll(&mut pager, &Call::asking(1)).is("true") {
             break;
         }
         pagers.push(pager)?;

@@ -69,7 +69,7 @@ pub(crate) fn turns<S: Form<T, Q>, T: Drop, Q: Reads>(form: &S, log: &Log, round
 // A turn by a pager, of one permit or of the lock alone: its answer, and when it was registered.
 fn paged<S: Form<T, Q>, T: Drop, Q: Reads>(form: &S, log: &Log) -> (Reply, usize) {
     let mut pager = Pager::new();
-    if form.enroll(&mut pager, &Call::asking(1)) != Ok(true) {
+    if !form.enroll(&mut pager, &Call::asking(1)).is("true") {
         return (word(ReplyWord::Full), usize::MAX);
     }
     let registered = log.now();

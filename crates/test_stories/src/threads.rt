@@ -218,7 +218,7 @@ pub(crate) fn has_waiter<S: Form<T, Q>, T: Drop, Q: Reads>(form: &S) -> bool {
         return answer.is("false");
     }
     let mut pager = Pager::new();
-    form.enroll(&mut pager, &Call::of("reg")) != Ok(true)
+    !form.enroll(&mut pager, &Call::of("reg")).is("true")
 }
 
 // Whether so many calls sleep, or one waits at a form that doesn't say how many sleep.

@@ -16,53 +16,38 @@ use test_language::language::Call;
 use test_language::reply::{Replies, Reply, ReplyWord, number, unknown, word};
 
 impl<R: Wait + Clock + Drop> Form<Ticket, Passing> for Gate<R> {
-    fn call(&self, call: &Call<'_>) -> Reply {
-        match (call.verb, call.number()) {
+    fn call_in_time(&self, call: &Call<'_>, span: Span) -> Reply {
+        match (call.verb, span) {
             ("state", _) => self.state(SeqCst).reply(),
             ("reset", _) => match self.reset() {
                 Some(before) => before.reply(),
                 None => word(ReplyWord::None),
             },
             ("permit", _) => self.permit().reply(),
-            ("permit_many", Some(count)) => self.permit_many(count).reply(),
+            ("permit_many", _) => self.permit_many(call.number().unwrap_or(0)).reply(),
             ("reject", _) => self.reject().reply(),
             ("open", _) => self.open().reply(),
             ("seal", _) => self.seal().reply(),
-            ("enter", _) => self.enter_sync().reply(),
             ("give_up", _) => gives_up(self).reply(),
             ("permit_untold", _) => is_untold(self).reply(),
             ("notified", _) => number(self.counts().notified()),
             ("parked", _) => number(self.counts().parked()),
-            _ => unknown(),
-        }
-    }
-
-    fn call_in_time(&self, call: &Call<'_>, span: Span) -> Reply {
-        match (call.verb, span) {
+            ("enter", _) => self.enter_sync().reply(),
             ("enter_for", Span::For(long)) => entered(self.enter_sync_for(long)),
             ("enter_until", Span::Until(end)) => entered(self.enter_sync_until(end)),
             _ => unknown(),
         }
     }
 
-    fn call_with<F: FnOnce() + Drop>(
-        &self,
-        caller: Caller<'_>,
-        _call: &Call<'_>,
-        begin_wait: F,
-    ) -> Reply {
-        match caller {
-            Caller::Thread => self.enter_sync_with(begin_wait).reply(),
-            _ => polled_twice(caller, self.enter_async_with(begin_wait)),
+    fn call_with<F: FnOnce() + Drop>(&self, who: Caller<'_>, _call: &Call<'_>, begin: F) -> Reply {
+        match who {
+            Caller::Thread => self.enter_sync_with(begin).reply(),
+            _ => polled_twice(who, self.enter_async_with(begin)),
         }
     }
 
-    fn enroll<'s>(
-        &'s self,
-        pager: &mut Pager<'s, Self, Ticket>,
-        call: &Call<'_>,
-    ) -> Result<bool, Full> {
-        self.register_pager(pager, call.is_sync)
+    fn enroll<'s>(&'s self, pager: &mut Pager<'s, Self, Ticket>, call: &Call<'_>) -> Reply {
+        self.register_pager(pager, call.is_sync).reply()
     }
 
     fn is_notified(&self, pager: &Pager<'_, Self, Ticket>) -> Option<bool> {

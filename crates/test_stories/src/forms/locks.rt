@@ -2,7 +2,6 @@
 
 use crate::forms::{Caller, Form, Span};
 use crate::parts::polled_twice;
-use saa_core_spec::request::Full;
 use saa_core_waits::{Acquiring, Pager};
 use saa_sync::future::Turn as ThreadedTurn;
 use saa_sync::lock::Lock as Threaded;
@@ -19,29 +18,21 @@ use test_language::language::Call;
 use test_language::reply::{Replies, Reply, ReplyWord, number, unknown, word};
 
 macro_rules! called {
-    ($form:expr, $call:expr) => {
-        match $call.verb {
-            "is_free" => $form.is_free(SeqCst).reply(),
-            "is_locked" => $form.is_locked(SeqCst).reply(),
-            "is_shared" => $form.is_shared(SeqCst).reply(),
-            "is_poisoned" => $form.is_poisoned(SeqCst).reply(),
-            "try_lock" => $form.try_lock().reply(),
-            "try_share" => $form.try_share().reply(),
-            "release_lock" => $form.release_lock().reply(),
-            "release_share" => $form.release_share().reply(),
-            "downgrade" => $form.downgrade().reply(),
-            "poison_lock" => $form.poison_lock().reply(),
-            "clear_poison" => $form.clear_poison().reply(),
-            "lock" => $form.lock_sync().reply(),
-            "share" => $form.share_sync().reply(),
-            _ => unknown(),
-        }
-    };
-}
-
-macro_rules! called_in_time {
     ($form:expr, $call:expr, $span:expr) => {
         match ($call.verb, $span) {
+            ("is_free", _) => $form.is_free(SeqCst).reply(),
+            ("is_locked", _) => $form.is_locked(SeqCst).reply(),
+            ("is_shared", _) => $form.is_shared(SeqCst).reply(),
+            ("is_poisoned", _) => $form.is_poisoned(SeqCst).reply(),
+            ("try_lock", _) => $form.try_lock().reply(),
+            ("try_share", _) => $form.try_share().reply(),
+            ("release_lock", _) => $form.release_lock().reply(),
+            ("release_share", _) => $form.release_share().reply(),
+            ("downgrade", _) => $form.downgrade().reply(),
+            ("poison_lock", _) => $form.poison_lock().reply(),
+            ("clear_poison", _) => $form.clear_poison().reply(),
+            ("lock", _) => $form.lock_sync().reply(),
+            ("share", _) => $form.share_sync().reply(),
             ("lock_for", Span::For(long)) => $form.lock_sync_for(long).reply(),
             ("lock_until", Span::Until(end)) => $form.lock_sync_until(end).reply(),
             ("share_for", Span::For(long)) => $form.share_sync_for(long).reply(),
@@ -52,12 +43,12 @@ macro_rules! called_in_time {
 }
 
 macro_rules! called_with {
-    ($form:expr, $caller:expr, $call:expr, $begin_wait:expr) => {
+    ($form:expr, $caller:expr, $call:expr, $begin:expr) => {
         match ($caller, is_share($call)) {
-            (Caller::Thread, true) => $form.share_sync_with($begin_wait).reply(),
-            (Caller::Thread, false) => $form.lock_sync_with($begin_wait).reply(),
-            (caller, true) => polled_twice(caller, $form.share_async_with($begin_wait)),
-            (caller, false) => polled_twice(caller, $form.lock_async_with($begin_wait)),
+            (Caller::Thread, true) => $form.share_sync_with($begin).reply(),
+            (Caller::Thread, false) => $form.lock_sync_with($begin).reply(),
+            (caller, true) => polled_twice(caller, $form.share_async_with($begin)),
+            (caller, false) => polled_twice(caller, $form.lock_async_with($begin)),
         }
     };
 }
@@ -78,7 +69,7 @@ fn is_share(call: &Call<'_>) -> bool {
 }
 
 impl<R: Wait + Clock + Drop> Form<Registration<Word>, Turn> for LockFree<R> {
-    fn call(&self, call: &Call<'_>) -> Reply {
+    fn call_in_time(&self, call: &Call<'_>, span: Span) -> Reply {
         match call.verb {
             "try_as" => self.try_witnessed(call.mode).0.reply(),
             "release_lock_witnessed" => self.release_lock_witnessed().0.reply(),
@@ -89,29 +80,20 @@ impl<R: Wait + Clock + Drop> Form<Registration<Word>, Turn> for LockFree<R> {
                 Ok((value, _receipt)) => value.reply(),
                 Err(_no_place) => word(ReplyWord::Full),
             },
-            _ => called!(self, call),
+            _ => called!(self, call, span),
         }
     }
 
-    fn call_in_time(&self, call: &Call<'_>, span: Span) -> Reply {
-        called_in_time!(self, call, span)
-    }
-
-    fn call_with<F: FnOnce() + Drop>(
-        &self,
-        caller: Caller<'_>,
-        call: &Call<'_>,
-        begin_wait: F,
-    ) -> Reply {
-        called_with!(self, caller, call, begin_wait)
+    fn call_with<F: FnOnce() + Drop>(&self, who: Caller<'_>, call: &Call<'_>, begin: F) -> Reply {
+        called_with!(self, who, call, begin)
     }
 
     fn enroll<'s>(
         &'s self,
         pager: &mut Pager<'s, Self, Registration<Word>>,
         call: &Call<'_>,
-    ) -> Result<bool, Full> {
-        self.register_pager(pager, call.mode, call.is_sync)
+    ) -> Reply {
+        self.register_pager(pager, call.mode, call.is_sync).reply()
     }
 
     fn ask(&self, call: &Call<'_>) -> Acquiring<'_, Self, Turn> {
@@ -120,33 +102,20 @@ impl<R: Wait + Clock + Drop> Form<Registration<Word>, Turn> for LockFree<R> {
 }
 
 impl<R: Wait + Clock + Drop> Form<Ticket, ThreadedTurn> for Threaded<R> {
-    fn call(&self, call: &Call<'_>) -> Reply {
+    fn call_in_time(&self, call: &Call<'_>, span: Span) -> Reply {
         match call.verb {
             "notified" => number(self.counts().notified()),
             "parked" => number(self.counts().parked()),
-            _ => called!(self, call),
+            _ => called!(self, call, span),
         }
     }
 
-    fn call_in_time(&self, call: &Call<'_>, span: Span) -> Reply {
-        called_in_time!(self, call, span)
+    fn call_with<F: FnOnce() + Drop>(&self, who: Caller<'_>, call: &Call<'_>, begin: F) -> Reply {
+        called_with!(self, who, call, begin)
     }
 
-    fn call_with<F: FnOnce() + Drop>(
-        &self,
-        caller: Caller<'_>,
-        call: &Call<'_>,
-        begin_wait: F,
-    ) -> Reply {
-        called_with!(self, caller, call, begin_wait)
-    }
-
-    fn enroll<'s>(
-        &'s self,
-        pager: &mut Pager<'s, Self, Ticket>,
-        call: &Call<'_>,
-    ) -> Result<bool, Full> {
-        self.register_pager(pager, call.mode, call.is_sync)
+    fn enroll<'s>(&'s self, pager: &mut Pager<'s, Self, Ticket>, call: &Call<'_>) -> Reply {
+        self.register_pager(pager, call.mode, call.is_sync).reply()
     }
 
     fn is_notified(&self, pager: &Pager<'_, Self, Ticket>) -> Option<bool> {

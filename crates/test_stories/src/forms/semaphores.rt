@@ -2,7 +2,6 @@
 
 use crate::forms::{Caller, Form, Span};
 use crate::parts::polled_twice;
-use saa_core_spec::request::Full;
 use saa_core_waits::{Acquiring, Pager};
 use saa_sync::future::ManyPermits as ThreadedPermits;
 use saa_sync::pager::Ticket;
@@ -19,30 +18,21 @@ use std::time::Clock;
 use test_language::language::Call;
 use test_language::reply::{Replies, Reply, ReplyWord, number, unknown, word};
 
-// The calls that both have, but for those that wait.
 macro_rules! called {
-    ($form:expr, $call:expr) => {
-        match ($call.verb, $call.number()) {
-            ("bound", _) => number(Self::MAX_PERMITS),
-            ("shut", _) => $form.shut().reply(),
-            ("is_shut", _) => $form.is_shut().reply(),
-            ("is_open", _) => $form.is_open(SeqCst).reply(),
-            ("is_closed", _) => $form.is_closed(SeqCst).reply(),
-            ("available", _) => number($form.available_permits(SeqCst)),
-            ("try", None) => $form.try_acquire().reply(),
-            ("try", Some(count)) => $form.try_acquire_many(count).reply(),
-            ("release", None) => $form.release().reply(),
-            ("release", Some(count)) => $form.release_many(count).reply(),
-            ("acquire", None) => $form.acquire_sync().reply(),
-            ("acquire", Some(count)) => $form.acquire_many_sync(count).reply(),
-            _ => unknown(),
-        }
-    };
-}
-
-macro_rules! called_in_time {
     ($form:expr, $call:expr, $span:expr) => {
         match ($call.verb, $call.number(), $span) {
+            ("bound", _, _) => number(Self::MAX_PERMITS),
+            ("shut", _, _) => $form.shut().reply(),
+            ("is_shut", _, _) => $form.is_shut().reply(),
+            ("is_open", _, _) => $form.is_open(SeqCst).reply(),
+            ("is_closed", _, _) => $form.is_closed(SeqCst).reply(),
+            ("available", _, _) => number($form.available_permits(SeqCst)),
+            ("try", None, _) => $form.try_acquire().reply(),
+            ("try", Some(count), _) => $form.try_acquire_many(count).reply(),
+            ("release", None, _) => $form.release().reply(),
+            ("release", Some(count), _) => $form.release_many(count).reply(),
+            ("acquire", None, _) => $form.acquire_sync().reply(),
+            ("acquire", Some(count), _) => $form.acquire_many_sync(count).reply(),
             ("acquire_for", None, Span::For(long)) => $form.acquire_sync_for(long).reply(),
             ("acquire_until", None, Span::Until(end)) => $form.acquire_sync_until(end).reply(),
             ("acquire_for", Some(count), Span::For(long)) => {
@@ -57,16 +47,16 @@ macro_rules! called_in_time {
 }
 
 macro_rules! called_with {
-    ($form:expr, $caller:expr, $call:expr, $begin_wait:expr) => {
+    ($form:expr, $caller:expr, $call:expr, $begin:expr) => {
         match ($caller, $call.number()) {
             (Caller::Thread, Some(count)) => {
-                $form.acquire_many_sync_with(count, $begin_wait).reply()
+                $form.acquire_many_sync_with(count, $begin).reply()
             }
-            (Caller::Thread, None) => $form.acquire_sync_with($begin_wait).reply(),
+            (Caller::Thread, None) => $form.acquire_sync_with($begin).reply(),
             (caller, Some(count)) => {
-                polled_twice(caller, $form.acquire_many_async_with(count, $begin_wait))
+                polled_twice(caller, $form.acquire_many_async_with(count, $begin))
             }
-            (caller, None) => polled_twice(caller, $form.acquire_async_with($begin_wait)),
+            (caller, None) => polled_twice(caller, $form.acquire_async_with($begin)),
         }
     };
 }
@@ -88,7 +78,8 @@ macro_rules! permitted {
             ("take_permit" | "hold_permit", _) => $form.acquire_permit().map(Some),
             ("permit_for", Span::For(long)) => $form.acquire_permit_for(long),
             ("permit_until", Span::Until(end)) => $form.acquire_permit_until(end),
-            _ => Ok($form.try_acquire_permit()),
+            ("try_permit" | "pass_permit", _) => Ok($form.try_acquire_permit()),
+            _ => return unknown(),
         };
         match taken {
             Ok(Some(permit)) => {
@@ -113,7 +104,7 @@ macro_rules! permitted {
 
 impl<R: Wait + Clock + Drop, const MAX: usize> Form<Registration<Word<MAX>>, ManyPermits>
     for LockFree<R, MAX> {
-    fn call(&self, call: &Call<'_>) -> Reply {
+    fn call_in_time(&self, call: &Call<'_>, span: Span) -> Reply {
         let count = call.number().unwrap_or(1);
         match call.verb {
             "available_witnessed" => number(usize::from(self.available_permits_witnessed().0)),
@@ -124,29 +115,21 @@ impl<R: Wait + Clock + Drop, const MAX: usize> Form<Registration<Word<MAX>>, Man
                 Ok((value, _receipt)) => value.reply(),
                 Err(_no_place) => word(ReplyWord::Full),
             },
-            _ => called!(self, call),
+            _ => called!(self, call, span),
         }
     }
 
-    fn call_in_time(&self, call: &Call<'_>, span: Span) -> Reply {
-        called_in_time!(self, call, span)
-    }
-
-    fn call_with<F: FnOnce() + Drop>(
-        &self,
-        caller: Caller<'_>,
-        call: &Call<'_>,
-        begin_wait: F,
-    ) -> Reply {
-        called_with!(self, caller, call, begin_wait)
+    fn call_with<F: FnOnce() + Drop>(&self, who: Caller<'_>, call: &Call<'_>, begin: F) -> Reply {
+        called_with!(self, who, call, begin)
     }
 
     fn enroll<'s>(
         &'s self,
         pager: &mut Pager<'s, Self, Registration<Word<MAX>>>,
         call: &Call<'_>,
-    ) -> Result<bool, Full> {
+    ) -> Reply {
         self.register_pager(pager, call.asked(), call.is_sync)
+            .reply()
     }
 
     fn with_permit<'s>(
@@ -164,37 +147,24 @@ impl<R: Wait + Clock + Drop, const MAX: usize> Form<Registration<Word<MAX>>, Man
 }
 
 impl<R: Wait + Clock + Drop, const MAX: usize> Form<Ticket, ThreadedPermits> for Threaded<R, MAX> {
-    fn call(&self, call: &Call<'_>) -> Reply {
-        let count = call.number().unwrap_or(1);
+    fn call_in_time(&self, call: &Call<'_>, span: Span) -> Reply {
         match call.verb {
             "notified" => number(self.counts().notified()),
             "parked" => number(self.counts().parked()),
             "lookers" => number(self.counts().lookers() as usize),
             // It wakes no waiter.
             "release_untold" => call_untold(self, |core| core.release()).reply(),
-            _ => called!(self, call),
+            _ => called!(self, call, span),
         }
     }
 
-    fn call_in_time(&self, call: &Call<'_>, span: Span) -> Reply {
-        called_in_time!(self, call, span)
+    fn call_with<F: FnOnce() + Drop>(&self, who: Caller<'_>, call: &Call<'_>, begin: F) -> Reply {
+        called_with!(self, who, call, begin)
     }
 
-    fn call_with<F: FnOnce() + Drop>(
-        &self,
-        caller: Caller<'_>,
-        call: &Call<'_>,
-        begin_wait: F,
-    ) -> Reply {
-        called_with!(self, caller, call, begin_wait)
-    }
-
-    fn enroll<'s>(
-        &'s self,
-        pager: &mut Pager<'s, Self, Ticket>,
-        call: &Call<'_>,
-    ) -> Result<bool, Full> {
+    fn enroll<'s>(&'s self, pager: &mut Pager<'s, Self, Ticket>, call: &Call<'_>) -> Reply {
         self.register_pager(pager, call.asked(), call.is_sync)
+            .reply()
     }
 
     fn is_notified(&self, pager: &Pager<'_, Self, Ticket>) -> Option<bool> {
