@@ -59,9 +59,10 @@ barrier none_few
 t1 wait; until 1 parked; waited -> 13; waited_spins -> 9; waited_yields -> 4; turns -> 2; wait_last; t1 ends
 t1 wait; until 1 parked; looked -> 0; waited -> 26; turns -> 5; wait_last; t1 ends
 
-# Calls of no time don't spin: each joins and leaves, a pager in a turn each to register, to poll and to leave.
+# Calls of no time don't spin: each joins and leaves, a pager in a turn each to register, to poll and to leave, and a future in one to be polled.
 lock none_looks
-take; turns -> 1; lock_for 0ns -> false; turns -> 3; lock_until 0ns -> false; turns -> 5; page_for 0ns -> false; turns -> 8; waited -> 0
+take; turns -> 1; lock_for 0ns -> false; turns -> 3; lock_until 0ns -> false; turns -> 5; page_for 0ns -> false; turns -> 8
+drop_future; turns -> 10; waited -> 0
 
 # Spin hints come first: who is granted before they are over hasn't yielded, nor parked.
 lock looks_none
@@ -148,7 +149,8 @@ t1 often 4000 lock -> 4000; t2 often 4000 lock -> 4000; crowd often 4000 lock ->
 semaphore none_none
 t1 often 3000 acquire 63 -> 3000; t2 often 3000 acquire 63 -> 3000; crowd often 3000 acquire 63 -> 3000; t1 ends; t2 ends; crowd ends; try 63
 
-# Nor between the look of a task's poll for its answer and the keeping of its waker.
+# Nor between the look of a task's poll for its answer and the keeping of its waker, which it makes in one turn.
 semaphore none_none
+t2 acquire 63 holds; t1 page_async 63; until 3 turns; stays 3 turns; t2 goes; t1 ends; t2 ends; turns -> 6
 t1 often 2000 page_async 63 -> 2000; t2 often 2000 page_async 63 -> 2000; crowd often 2000 page_async 63 -> 2000; t1 ends; t2 ends; crowd ends; try 63
 ";
