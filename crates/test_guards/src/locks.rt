@@ -7,16 +7,13 @@ use saa_core_guards::Guard;
 use saa_core_guards::future::{
     MutexFuture, ReadFuture, WriteFuture, lock_async, read_async, write_async,
 };
-use saa_core_guards::guarded::{Guarded, lock_of};
+use saa_core_guards::guarded::Guarded;
 use saa_core_guards::mutex::{Mutex, MutexGuard};
 use saa_core_guards::raw_lock::{MadeWith, RawLockAsync, RawLockUntil};
 use saa_core_guards::rw_lock::{RwLock, RwLockReadGuard, RwLockWriteGuard};
-use saa_sync::lock::Lock;
-use saa_word_lock_free::lock::Lock as LockFree;
 use std::alloc::{AllocError, AllocGlobal};
-use std::sync::Wait;
 use std::time::{Duration, Instant};
-use test_language::reply::{Replies, Reply, ReplyWord, word};
+use test_language::reply::ReplyWord;
 
 // Which guard is asked for.
 #[derive(Clone, Copy)]
@@ -35,54 +32,30 @@ pub(crate) enum How {
     Until(Instant),
 }
 
-// Why a call for a guard gives none.
-#[derive(Clone, Copy)]
-pub(crate) enum NoGuard {
-    None,
-    Pending,
-    Full,
+// A guard, or the word for why there is none.
+pub(crate) type Given<G> = Result<G, ReplyWord>;
+
+fn full(_full: Full) -> ReplyWord {
+    ReplyWord::Full
 }
 
-impl From<Full> for NoGuard {
-    fn from(_full: Full) -> Self {
-        NoGuard::Full
-    }
-}
-
-impl Replies for NoGuard {
-    fn reply(self) -> Reply {
-        word(match self {
-            NoGuard::None => ReplyWord::None,
-            NoGuard::Pending => ReplyWord::Pending,
-            NoGuard::Full => ReplyWord::Full,
-        })
-    }
-}
-
-// A lock that tests poison, as no lock below a mutex or a reader-writer lock ever is.
-pub(crate) trait Poisoned {
-    fn poison(&self);
-}
-
-impl<R: Wait + Drop> Poisoned for Lock<R> {
-    fn poison(&self) {
-        let _is_owned = self.try_lock();
-        self.poison_lock();
-    }
-}
-
-impl<R: Wait + Drop> Poisoned for LockFree<R> {
-    fn poison(&self) {
-        let _is_owned = self.try_lock();
-        self.poison_lock();
-    }
+// What a call of one of these names gives.
+macro_rules! given {
+    ($lock:expr, $how:expr, $wait:ident, $try:ident, $for:ident, $until:ident) => {
+        match $how {
+            How::Wait => $lock.$wait().map_err(full),
+            How::Try => $lock.$try().ok_or(ReplyWord::None),
+            How::For(long) => $lock.$for(long).map_err(full)?.ok_or(ReplyWord::None),
+            How::Until(end) => $lock.$until(end).map_err(full)?.ok_or(ReplyWord::None),
+        }
+    };
 }
 
 // A mutex and a reader-writer lock.
 #[derive(Drop)]
 pub(crate) struct Locks<L: RawLockAsync + RawLockUntil + Drop> {
-    mutex: Mutex<L, usize>,
-    rwlock: RwLock<L, usize>,
+    pub(crate) mutex: Mutex<L, usize>,
+    pub(crate) rwlock: RwLock<L, usize>,
 }
 
 impl<L: RawLockAsync + RawLockUntil + Drop> Locks<L> {
@@ -101,17 +74,8 @@ impl<L: RawLockAsync + RawLockUntil + Drop> Locks<L> {
         })
     }
 
-    // Poisons both.
-    pub(crate) fn poison(&self)
-    where
-        L: Poisoned,
-    {
-        lock_of(&self.mutex).poison();
-        lock_of(&self.rwlock).poison();
-    }
-
     // The guard, by this call.
-    pub(crate) fn acquire(&self, way: Way, how: How) -> Result<Held<'_, L>, NoGuard> {
+    pub(crate) fn acquire(&self, way: Way, how: How) -> Given<Held<'_, L>> {
         Ok(match way {
             Way::Lock => Held::Mutex(self.lock(how)?),
             Way::Read => Held::Reader(self.read(how)?),
@@ -119,31 +83,16 @@ impl<L: RawLockAsync + RawLockUntil + Drop> Locks<L> {
         })
     }
 
-    fn lock(&self, how: How) -> Result<MutexGuard<'_, L, usize>, NoGuard> {
-        match how {
-            How::Wait => Ok(self.mutex.lock()?),
-            How::Try => self.mutex.try_lock().ok_or(NoGuard::None),
-            How::For(long) => self.mutex.lock_for(long)?.ok_or(NoGuard::None),
-            How::Until(end) => self.mutex.lock_until(end)?.ok_or(NoGuard::None),
-        }
+    fn lock(&self, how: How) -> Given<MutexGuard<'_, L, usize>> {
+        given!(self.mutex, how, lock, try_lock, lock_for, lock_until)
     }
 
-    fn read(&self, how: How) -> Result<RwLockReadGuard<'_, L, usize>, NoGuard> {
-        match how {
-            How::Wait => Ok(self.rwlock.read()?),
-            How::Try => self.rwlock.try_read().ok_or(NoGuard::None),
-            How::For(long) => self.rwlock.read_for(long)?.ok_or(NoGuard::None),
-            How::Until(end) => self.rwlock.read_until(end)?.ok_or(NoGuard::None),
-        }
+    fn read(&self, how: How) -> Given<RwLockReadGuard<'_, L, usize>> {
+        given!(self.rwlock, how, read, try_read, read_for, read_until)
     }
 
-    fn write(&self, how: How) -> Result<RwLockWriteGuard<'_, L, usize>, NoGuard> {
-        match how {
-            How::Wait => Ok(self.rwlock.write()?),
-            How::Try => self.rwlock.try_write().ok_or(NoGuard::None),
-            How::For(long) => self.rwlock.write_for(long)?.ok_or(NoGuard::None),
-            How::Until(end) => self.rwlock.write_until(end)?.ok_or(NoGuard::None),
-        }
+    fn write(&self, how: How) -> Given<RwLockWriteGuard<'_, L, usize>> {
+        given!(self.rwlock, how, write, try_write, write_for, write_until)
     }
 
     // The future of the guard.
@@ -212,7 +161,7 @@ pub(crate) enum Pending<'s, L: RawLockAsync + RawLockUntil + Drop> {
 
 impl<'s, L: RawLockAsync + RawLockUntil + Drop> Pending<'s, L> {
     // The guard, by a poll of this task.
-    pub(crate) fn poll(&mut self, task: &MockTask) -> Result<Held<'s, L>, NoGuard> {
+    pub(crate) fn poll(&mut self, task: &MockTask) -> Given<Held<'s, L>> {
         Ok(match self {
             Pending::Mutex(future) => Held::Mutex(ready(task.poll(future))?),
             Pending::Reader(future) => Held::Reader(ready(task.poll(future))?),
@@ -222,9 +171,9 @@ impl<'s, L: RawLockAsync + RawLockUntil + Drop> Pending<'s, L> {
 }
 
 // What a poll gave, if it was ready.
-fn ready<G>(polled: Poll<Result<G, Full>>) -> Result<G, NoGuard> {
+fn ready<G>(polled: Poll<Result<G, Full>>) -> Given<G> {
     match polled {
-        Poll::Ready(answer) => Ok(answer?),
-        Poll::Pending => Err(NoGuard::Pending),
+        Poll::Ready(answer) => answer.map_err(full),
+        Poll::Pending => Err(ReplyWord::Pending),
     }
 }

@@ -1,6 +1,6 @@
 //! A place of a story: a task with its future and its guard, and the moves that are made there.
 
-use crate::locks::{Held, How, Locks, NoGuard, Pending, Way};
+use crate::locks::{Given, Held, How, Locks, Pending, Way};
 use futures::test::MockTask;
 use saa_core_guards::raw_lock::{RawLockAsync, RawLockUntil};
 use std::alloc::AllocGlobal;
@@ -11,7 +11,7 @@ use std::sync::atomic::AtomicUsize;
 use std::sync::atomic::Ordering::SeqCst;
 use std::thread::yield_now;
 use std::time::{Clock, Instant};
-use test_language::language::{Call, Time};
+use test_language::language::{Call, Subject, Time};
 use test_language::reply::{Replies, Reply, ReplyWord, number, unknown, word};
 
 // How often a holder gives way to calls that have to wait.
@@ -23,19 +23,14 @@ pub(crate) struct Place<'s, L: RawLockAsync + RawLockUntil + Drop> {
     task: MockTask,
     pending: Option<Pending<'s, L>>,
     held: Option<Held<'s, L>>,
-    keeps_guards: bool,
 }
 
 impl<'s, L: RawLockAsync + RawLockUntil + Drop> Place<'s, L> {
-    pub(crate) fn new<H: RandomSource + AllocGlobal>(
-        rt: &H,
-        keeps_guards: bool,
-    ) -> io::Result<Self> {
+    pub(crate) fn new<H: RandomSource + AllocGlobal>(rt: &H) -> io::Result<Self> {
         Ok(Place {
             task: MockTask::new(rt)?,
             pending: None,
             held: None,
-            keeps_guards,
         })
     }
 
@@ -48,16 +43,16 @@ impl<'s, L: RawLockAsync + RawLockUntil + Drop> Place<'s, L> {
         call: &Call<'_>,
     ) -> Reply {
         match (call.verb, way_of(call.verb)) {
-            ("poll", _) => self.poll(),
+            ("poll", _) => self.poll(call),
             ("woken", _) => self.task.is_woken().reply(),
             ("cancel", _) => self.pending.take().is_some().reply(),
             ("turns", _) => number(torn_turns(locks, call)),
             ("lock_async" | "read_async" | "write_async", Some(way)) => {
                 self.pending = Some(locks.future(way));
-                self.poll()
+                self.poll(call)
             }
             (_, Some(way)) => match how_of(rt, call) {
-                Ok(how) => self.keep(locks.acquire(way, how)),
+                Ok(how) => self.keep(call, locks.acquire(way, how)),
                 Err(_no_clock) => unknown(),
             },
             ("count" | "await" | "counted", _) => counted(rt, count, call),
@@ -65,25 +60,25 @@ impl<'s, L: RawLockAsync + RawLockUntil + Drop> Place<'s, L> {
         }
     }
 
-    // Keeps the guard that was given, or drops it at once.
-    fn keep(&mut self, given: Result<Held<'s, L>, NoGuard>) -> Reply {
+    // Keeps the guard that was given; that of another thread goes at once.
+    fn keep(&mut self, call: &Call<'_>, given: Given<Held<'s, L>>) -> Reply {
         match given {
             Ok(held) => {
                 let shown = held.shown();
-                if self.keeps_guards {
+                if !matches!(call.subject, Subject::Thread(_)) {
                     self.held = Some(held);
                 }
                 number(shown)
             }
-            Err(none) => none.reply(),
+            Err(none) => word(none),
         }
     }
 
-    fn poll(&mut self) -> Reply {
+    fn poll(&mut self, call: &Call<'_>) -> Reply {
         match &mut self.pending {
             Some(pending) => {
                 let given = pending.poll(&self.task);
-                self.keep(given)
+                self.keep(call, given)
             }
             None => unknown(),
         }

@@ -3,6 +3,7 @@
 use crate::locks::Locks;
 use crate::places::Place;
 use crate::stories;
+use saa_core_guards::guarded::lock_of;
 use saa_core_guards::raw_lock::{RawLockAsync, RawLockUntil};
 use saa_sync::lock::Lock;
 use saa_word_lock_free::lock::Lock as LockFree;
@@ -45,39 +46,32 @@ fn places_of(call: &Call<'_>) -> (usize, usize) {
     (place, place.saturating_add(1))
 }
 
-// How many the crowd of a story are.
-fn crowd_of(moves: &[Move<'_>]) -> usize {
-    let mut crowd = 0usize;
-    for row in moves {
-        crowd = crowd.max(row.call.crowd);
-    }
-    crowd
-}
-
-// The places of a thread; the crowd are of the story's own. The guard of another thread goes at once.
-fn places_for<'s, H: RandomSource + AllocGlobal, L: RawLockAsync + RawLockUntil + Drop>(
+// Makes more places, until there are so many.
+fn grow<'s, H: RandomSource + AllocGlobal, L: RawLockAsync + RawLockUntil + Drop>(
     rt: &H,
-    thread: usize,
-    moves: &[Move<'_>],
-) -> io::Result<Vec<Place<'s, L>>> {
-    let is_own = thread == OWN;
-    let crowd = if is_own { crowd_of(moves) } else { 0 };
-    let mut places = Vec::new(rt.alloc());
-    for _place in 0..FEW.saturating_add(crowd) {
-        places.push(Place::new(rt, is_own)?)?;
+    places: &mut Vec<Place<'s, L>>,
+    wanted: usize,
+) -> io::Result<()> {
+    for _place in places.len()..wanted {
+        places.push(Place::new(rt)?)?;
     }
-    Ok(places)
+    Ok(())
 }
 
 // Makes the move of a row, at one place or at each of a crowd: this row if it is answered otherwise.
-fn failed<'t, 's, H: Wait + Clock, L: RawLockAsync + RawLockUntil + Drop>(
+fn failed<'t, 's, H, L>(
     rt: &H,
     locks: &'s Locks<L>,
     count: &AtomicUsize,
     places: &mut Vec<Place<'s, L>>,
     row: &Move<'t>,
-) -> Option<Failed<'t>> {
+) -> io::Result<Option<Failed<'t>>>
+where
+    H: Wait + Clock + RandomSource + AllocGlobal,
+    L: RawLockAsync + RawLockUntil + Drop,
+{
     let (from, to) = places_of(&row.call);
+    grow(rt, places, to)?;
     for place in from..to {
         let answer = match places.get_mut(place) {
             Some(place) => place.answer(rt, locks, count, &row.call),
@@ -85,10 +79,10 @@ fn failed<'t, 's, H: Wait + Clock, L: RawLockAsync + RawLockUntil + Drop>(
         };
         let failed = Failed::unless(row, answer);
         if failed.is_some() {
-            return failed;
+            return Ok(failed);
         }
     }
-    None
+    Ok(None)
 }
 
 // Makes the moves of one thread; where one is answered otherwise, no other thread waits for a count.
@@ -103,10 +97,10 @@ where
     H: Wait + Clock + RandomSource + AllocGlobal,
     L: RawLockAsync + RawLockUntil + Drop,
 {
-    let mut places = places_for(rt, thread, moves)?;
+    let mut places = Vec::new(rt.alloc());
     for row in moves {
         if maker_of(&row.call) == thread {
-            let failed = failed(rt, locks, count, &mut places, row);
+            let failed = failed(rt, locks, count, &mut places, row)?;
             if failed.is_some() {
                 count.store(FAILED, Ordering::SeqCst);
                 return Ok(failed);
@@ -136,19 +130,27 @@ where
     Ok(None)
 }
 
-// A story at the locks that its first line makes. (The threads are begun at each kind by itself: the borrow checker covers none that a function begins
+// A story at these locks, which may be poisoned first. (The threads are begun at each kind by itself: the borrow checker covers none that a function begins
 // for any lock.)
+macro_rules! at_locks {
+    ($rt:expr, $locks:expr, $line:expr, $moves:expr) => {{
+        if $line.verb == "poisoned" {
+            let (mutex, rwlock) = (lock_of(&$locks.mutex), lock_of(&$locks.rwlock));
+            let _are_owned = (mutex.try_lock(), rwlock.try_lock());
+            let _are_poisoned = (mutex.poison_lock(), rwlock.poison_lock());
+        }
+        let count = AtomicUsize::new(0);
+        in_threads($rt, &|thread| played($rt, &$locks, &count, $moves, thread))
+    }};
+}
+
 fn at_threaded<'t, H: Wait + Clock + Threads + Sync + RandomSource + AllocGlobal>(
     rt: &H,
     line: &Call<'_>,
     moves: &[Move<'t>],
 ) -> io::Result<Option<Failed<'t>>> {
     let locks: Locks<Lock<&H>> = Locks::new(rt, line.number().unwrap_or(0), line.room(1))?;
-    if line.verb == "poisoned" {
-        locks.poison();
-    }
-    let count = AtomicUsize::new(0);
-    in_threads(rt, &|thread| played(rt, &locks, &count, moves, thread))
+    at_locks!(rt, locks, line, moves)
 }
 
 fn at_lock_free<'t, H: Wait + Clock + Threads + Sync + RandomSource + AllocGlobal>(
@@ -157,11 +159,7 @@ fn at_lock_free<'t, H: Wait + Clock + Threads + Sync + RandomSource + AllocGloba
     moves: &[Move<'t>],
 ) -> io::Result<Option<Failed<'t>>> {
     let locks: Locks<LockFree<&H>> = Locks::new(rt, line.number().unwrap_or(0), line.room(1))?;
-    if line.verb == "poisoned" {
-        locks.poison();
-    }
-    let count = AtomicUsize::new(0);
-    in_threads(rt, &|thread| played(rt, &locks, &count, moves, thread))
+    at_locks!(rt, locks, line, moves)
 }
 
 // The first row of a story that is answered otherwise at the threaded locks, or at the lock-free ones, where it is told for this number.
@@ -196,19 +194,11 @@ fn first_failed<'t, H: Wait + Clock + Threads + Sync + RandomSource + AllocGloba
     Ok(None)
 }
 
-static ALONE: [&str; 5] = [
-    stories::MUTEX,
-    stories::RWLOCK,
-    stories::TASKS,
-    stories::ROOMS,
-    stories::POISONED,
-];
-
 #[test]
 fn guards_answer_one_thread(rt: HostRuntime) -> Result<(), Fail> {
-    for stories in ALONE {
-        same!(rt; first_failed(&rt, true, stories)?, None);
-        same!(rt; first_failed(&rt, false, stories)?, None);
+    for alone in stories::ALONE {
+        same!(rt; first_failed(&rt, true, alone)?, None);
+        same!(rt; first_failed(&rt, false, alone)?, None);
     }
     Ok(())
 }

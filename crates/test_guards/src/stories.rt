@@ -13,8 +13,11 @@
 //! | `turns 100 lock` | so often a guard that makes the number 2 more, by 1 at a time, if it may (of `downgrade` a writer's, which then reads): how often it showed a number that it must not |
 //! | `count`, `await 3`, `counted` | adds one to the count of all threads, waits until it is so many, gives way many times and says how many it is |
 
+/// Those of one thread.
+pub(crate) static ALONE: [&str; 5] = [MUTEX, RWLOCK, TASKS, ROOMS, POISONED];
+
 /// The mutex in one thread: what its guard shows and writes, and when its calls answer that they can't.
-pub(crate) const MUTEX: &str = "\
+const MUTEX: &str = "\
 # What a guard wrote the next one shows, after a drop and after a fair unlock.
 locks 0 4
 lock -> 0; put 1; shows -> 1; a try_lock -> none; drop; try_lock -> 1; put 7; a try_lock -> none; unlock_fair; a try_lock -> 7; a drop
@@ -28,7 +31,7 @@ a lock_for 2ms -> 5; a drop; a lock_until 2ms -> 5
 ";
 
 /// The reader-writer lock in one thread: readers share it, a writer is alone.
-pub(crate) const RWLOCK: &str = "\
+const RWLOCK: &str = "\
 # Two guards show the value at the same time.
 locks 0 4
 read -> 0; a read -> 0; shows -> 0; a shows -> 0; drop; a drop
@@ -58,7 +61,7 @@ crowd 62 try_read -> 9; try_read -> none; read -> full; crowd 62 shows -> 9; cro
 ";
 
 /// Futures of guards, polled by hand: they are granted in the order in which they joined the queue, and leave it when dropped.
-pub(crate) const TASKS: &str = "\
+const TASKS: &str = "\
 # A mutex is granted in the order of joining: to the oldest waiter, and to no other before that one.
 locks 0 2
 try_lock -> 0; a lock_async -> pending; b lock_async -> pending; c lock -> full; a woken -> false; b woken -> false; drop; a woken; b woken -> false
@@ -92,7 +95,7 @@ try_write -> 0; a read_async -> full; b write_async -> full; b poll -> pending; 
 ";
 
 /// Every room is filled to its last place and one more: each place keeps its task's waker, and the next call is told that the room is full.
-pub(crate) const ROOMS: &str = "\
+const ROOMS: &str = "\
 # A mutex: the oldest is woken alone.
 each 0 19 31 299
 locks 0 N+1
@@ -112,7 +115,7 @@ c woken -> false; b read -> full; b write -> full; b read_async -> full; drop; a
 
 /// Locks that are poisoned, as those below mutexes and reader-writer locks never are: a call that waits clears the poison, and a try and a future are
 /// given nothing.
-pub(crate) const POISONED: &str = "\
+const POISONED: &str = "\
 # A mutex is cleared, and then owned alone.
 poisoned 3 1
 try_lock -> none; a lock_async -> pending; a woken; a poll -> pending; a cancel; lock -> 3; a try_lock -> none; drop; a try_lock -> 3
