@@ -14,15 +14,14 @@ use std::fmt::{Debug, Display};
 use std::io;
 use std::random::RandomSource;
 use std::sync::Wait;
-use std::thread::Threads;
 use std::time::{Clock, Duration, Instant};
 use test_language::language::Call;
 use test_language::reply::{Replies, Reply, ReplyWord, number, unknown, word};
 
-/// A runtime on which stories are played.
-pub(crate) trait Host: Wait + Clock + Threads + Sync + RandomSource + AllocGlobal {}
+/// A runtime on which stories are played; a crowd needs `Threads` and `Sync` of it, too.
+pub(crate) trait Host: Wait + Clock + RandomSource + AllocGlobal {}
 
-impl<H: Wait + Clock + Threads + Sync + RandomSource + AllocGlobal> Host for H {}
+impl<H: Wait + Clock + RandomSource + AllocGlobal> Host for H {}
 
 // The ways not to wait, and to wait, by how verbs end that are said in them; `try` stands ahead of its verb, and who waits for ever says nothing.
 static WAYS: [&str; 5] = ["try", "_for", "_until", "_async", ""];
@@ -80,7 +79,7 @@ fn way_of<'t>(call: &Call<'t>) -> (&'static str, &'t str) {
 }
 
 /// A pool or a queue, by reference, whose futures are these.
-pub(crate) trait Place<H, F: Drop>: Copy {
+pub(crate) trait Place<H, F>: Copy {
     /// Makes a call that may wait. An error is the clock's, or the executor's.
     fn attempt(self, rt: &H, attempt: &Attempt<'_>) -> io::Result<Reply>;
 
@@ -94,9 +93,7 @@ pub(crate) trait Place<H, F: Drop>: Copy {
     fn polled(self, alloc: Global, future: &mut F, task: &MockTask) -> Reply;
 
     /// Ends a future: the item that it hands back, or none.
-    fn ended(self, _future: F) -> Reply {
-        word(ReplyWord::None)
-    }
+    fn ended(self, future: F) -> Reply;
 }
 
 // The instant at which the time of a call is up.
@@ -218,6 +215,10 @@ impl<'p, 'r, H: Host, const MAX: usize> Place<H, AtPool<'p, 'r, H, MAX>>
             Poll::Ready(checked_out) => done(alloc, checked_out, ""),
             Poll::Pending => word(ReplyWord::Pending),
         }
+    }
+
+    fn ended(self, _future: AtPool<'p, 'r, H, MAX>) -> Reply {
+        word(ReplyWord::None)
     }
 }
 

@@ -14,7 +14,7 @@ use saa_sync_queue::Queue;
 use std::io;
 use std::sync::atomic::{AtomicUsize, Ordering};
 use std::test::Fail;
-use std::thread::{self, yield_now};
+use std::thread::{self, Threads, yield_now};
 use std::time::Duration;
 use test_asserts::same;
 use test_language::language::{Call, Failed, Move, Subject, moves_for, numbers_of};
@@ -31,15 +31,18 @@ const WRONG: usize = 100;
 struct Player<R, T, F: Drop> {
     rt: R,
     place: T,
-    tasks: [MockTask; 3],
+    tasks: Vec<MockTask>,
     futures: Vec<Option<F>>,
 }
 
-impl<'r, H: Host, F: Drop, T: Place<H, F> + Sync> Player<&'r H, T, F> {
+impl<'r, H: Host + Threads + Sync, F: Drop, T: Place<H, F> + Sync> Player<&'r H, T, F> {
     // Makes the move of a row.
     fn answer(&mut self, call: &Call<'_>) -> Reply {
         match call.subject {
-            Subject::Task(task) => self.tasks[task % 3].is_woken().reply(),
+            Subject::Task(task) => match self.tasks.get(task) {
+                Some(task) => task.is_woken().reply(),
+                None => unknown(),
+            },
             Subject::Future(name) => self.at_future(name, call),
             Subject::Crowd => crowd(self.rt, self.place, call),
             _ if call.verb == "repeat" => repeated(self.rt, self.place, call),
@@ -49,8 +52,8 @@ impl<'r, H: Host, F: Drop, T: Place<H, F> + Sync> Player<&'r H, T, F> {
 
     // Makes a future, or makes a call at one.
     fn at_future(&mut self, name: usize, call: &Call<'_>) -> Reply {
-        let task = &self.tasks[call.task % 3];
-        let Some(slot) = self.futures.get_mut(name) else {
+        let (Some(slot), Some(task)) = (self.futures.get_mut(name), self.tasks.get(call.task))
+        else {
             return unknown();
         };
         match (call.verb, slot) {
@@ -72,7 +75,7 @@ impl<'r, H: Host, F: Drop, T: Place<H, F> + Sync> Player<&'r H, T, F> {
 }
 
 // Makes a call for each number from 1 on: how many are done, or answer their number.
-fn repeated<H: Host, F: Drop, T: Place<H, F>>(rt: &H, place: T, call: &Call<'_>) -> Reply {
+fn repeated<H: Host, F, T: Place<H, F>>(rt: &H, place: T, call: &Call<'_>) -> Reply {
     let mut right = 0usize;
     for own in 1..=call.pager() {
         let answered = place.call(rt, &Call::with(call.then().verb, own));
@@ -83,7 +86,11 @@ fn repeated<H: Host, F: Drop, T: Place<H, F>>(rt: &H, place: T, call: &Call<'_>)
 }
 
 // How many of a crowd are answered as they must be.
-fn crowd<H: Host, F: Drop, T: Place<H, F> + Sync>(rt: &H, place: T, call: &Call<'_>) -> Reply {
+fn crowd<H, F, T>(rt: &H, place: T, call: &Call<'_>) -> Reply
+where
+    H: Host + Threads + Sync,
+    T: Place<H, F> + Sync,
+{
     let ended = AtomicUsize::new(0);
     let right = thread::map_indices(
         rt,
@@ -108,7 +115,7 @@ fn crowd<H: Host, F: Drop, T: Place<H, F> + Sync>(rt: &H, place: T, call: &Call<
 }
 
 // Waits until so many of a crowd wait, or have ended.
-fn await_crowd<H, F: Drop, T>(rt: &H, place: T, ended: &AtomicUsize, wanted: usize)
+fn await_crowd<H, F, T>(rt: &H, place: T, ended: &AtomicUsize, wanted: usize)
 where
     H: Host,
     T: Place<H, F>,
@@ -123,7 +130,7 @@ where
 }
 
 // One of a crowd, from 1 on, makes the call once those before it wait: 1 if it is let in after them, with its number, or answered `closed`.
-fn sleep<H, F: Drop, T>(rt: &H, place: T, call: &Call<'_>, ended: &AtomicUsize, own: usize) -> usize
+fn sleep<H, F, T>(rt: &H, place: T, call: &Call<'_>, ended: &AtomicUsize, own: usize) -> usize
 where
     H: Host,
     T: Place<H, F>,
@@ -140,7 +147,7 @@ where
 }
 
 // Lets a crowd in one by one, or closes: 0 if each call is done, or takes what came before the one that it lets in.
-fn let_in<H, F: Drop, T>(rt: &H, place: T, call: &Call<'_>, ended: &AtomicUsize) -> usize
+fn let_in<H, F, T>(rt: &H, place: T, call: &Call<'_>, ended: &AtomicUsize) -> usize
 where
     H: Host,
     T: Place<H, F>,
@@ -164,19 +171,21 @@ where
 type Outcome<'t> = io::Result<Option<Failed<'t>>>;
 
 // Plays a story at a place: the first row that is answered otherwise.
-fn played<'t, H: Host, F: Drop, T: Place<H, F> + Sync + Drop>(
-    rt: &H,
-    place: T,
-    rows: &[Move<'t>],
-) -> Outcome<'t> {
+fn played<'t, H, F: Drop, T>(rt: &H, place: T, rows: &[Move<'t>]) -> Outcome<'t>
+where
+    H: Host + Threads + Sync,
+    T: Place<H, F> + Sync + Drop,
+{
+    let mut tasks = Vec::new(rt.alloc());
     let mut futures = Vec::new(rt.alloc());
     for _name in 0..3 {
+        tasks.push(MockTask::new(rt)?)?;
         futures.push(None)?;
     }
     let mut player = Player {
         rt,
         place,
-        tasks: [MockTask::new(rt)?, MockTask::new(rt)?, MockTask::new(rt)?],
+        tasks,
         futures,
     };
     for row in rows {
@@ -189,7 +198,11 @@ fn played<'t, H: Host, F: Drop, T: Place<H, F> + Sync + Drop>(
 }
 
 // Plays a story at a pool or a queue for so many.
-fn at<'t, H: Host, const MAX: usize>(rt: &H, line: &Call<'_>, rows: &[Move<'t>]) -> Outcome<'t>
+fn at<'t, H: Host + Threads + Sync, const MAX: usize>(
+    rt: &H,
+    line: &Call<'_>,
+    rows: &[Move<'t>],
+) -> Outcome<'t>
     requires bound { 0 < MAX }
     requires narrow { MAX < 65536 }
 {
@@ -203,7 +216,7 @@ fn at<'t, H: Host, const MAX: usize>(rt: &H, line: &Call<'_>, rows: &[Move<'t>])
 }
 
 // Plays a story for this number, at what its first line makes.
-fn played_for<'t, H: Host>(rt: &H, story: &'t str, each: usize) -> Outcome<'t> {
+fn played_for<'t, H: Host + Threads + Sync>(rt: &H, story: &'t str, each: usize) -> Outcome<'t> {
     let moves = moves_for(rt.alloc(), story, each)?;
     let Some((first, rows)) = moves.split_first() else {
         return Ok(None);
@@ -217,7 +230,7 @@ fn played_for<'t, H: Host>(rt: &H, story: &'t str, each: usize) -> Outcome<'t> {
 }
 
 // The first row of these stories that is answered otherwise.
-fn first_failed<'t, H: Host>(rt: &H, stories: &'t str) -> Outcome<'t> {
+fn first_failed<'t, H: Host + Threads + Sync>(rt: &H, stories: &'t str) -> Outcome<'t> {
     for story in stories.split("\n\n") {
         for each in numbers_of(rt.alloc(), story)? {
             let failed = played_for(rt, story, each)?;

@@ -6,7 +6,7 @@ use saa_sync_queue::Queue;
 use std::io;
 use std::sync::Wait;
 use std::sync::atomic::{AtomicUsize, Ordering};
-use std::thread::{self, yield_now};
+use std::thread::{self, Threads, yield_now};
 use std::time::Duration;
 use test_asserts::same;
 use test_language::language::Call;
@@ -107,7 +107,7 @@ fn share<H: Host>(
 
 // What comes of threads that share the values 0, 1 and 2: how often one was had twice at once, and a call that waits refused; how many are in
 // and out; whether each turn is counted by the pool and in a value; and how many of each value there are, as digits.
-fn shared_by_threads<H: Host>(rt: &H) -> io::Result<([usize; 5], bool)> {
+fn shared_by_threads<H: Host + Threads + Sync>(rt: &H) -> io::Result<([usize; 5], bool)> {
     let pool = Pool::<_, usize, 3>::new(rt, rt.alloc(), SHARERS as u16)?;
     let holders = [
         AtomicUsize::new(0),
@@ -182,7 +182,7 @@ fn consume<H: Host>(rt: &H, queue: &Queue<&H, usize, 3>, consumer: usize) -> [us
 }
 
 // What comes of producers and consumers that trade in a queue for three items, and how many are left.
-fn traded<H: Host>(rt: &H) -> io::Result<([usize; 4], usize)> {
+fn traded<H: Host + Threads + Sync>(rt: &H) -> io::Result<([usize; 4], usize)> {
     let queue = Queue::<_, usize, 3>::new(rt, rt.alloc(), TRADERS as u16)?;
     let producers = AtomicUsize::new(TRADERS);
     let counted = thread::map_indices(
