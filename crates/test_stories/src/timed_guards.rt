@@ -58,16 +58,25 @@ macro_rules! in_time {
     }};
 }
 
-// Both timed calls of a mutex, and the four of a reader-writer lock.
-fn all_calls<R: Wait + Clock + Drop>(
+// Both timed calls of a mutex.
+fn of_mutex<R: Wait + Clock + Drop>(
     clock: &impl Clock,
     mutex: &Mutex<R, u64>,
-    lock: &RwLock<R, u64>,
-) -> io::Result<[Answer; 6]> {
+) -> io::Result<[Answer; 2]> {
     let duration = Duration::from_nanos(WHILE);
     Ok([
         in_time!(clock, end, mutex.lock_for(duration)),
         in_time!(clock, end, mutex.lock_until(end)),
+    ])
+}
+
+// The four of a reader-writer lock.
+fn of_rw_lock<R: Wait + Clock + Drop>(
+    clock: &impl Clock,
+    lock: &RwLock<R, u64>,
+) -> io::Result<[Answer; 4]> {
+    let duration = Duration::from_nanos(WHILE);
+    Ok([
         in_time!(clock, end, lock.read_for(duration)),
         in_time!(clock, end, lock.read_until(end)),
         in_time!(clock, end, lock.write_for(duration)),
@@ -80,28 +89,41 @@ fn lock_of<R: Wait + Drop>(clock: R, alloc: Global, room: u16) -> Result<Lock<R>
     form_of(clock, alloc, LockCore::new(alloc, room)?, room, NONE, NONE)
 }
 
-// What they answer while both are free, while each has an owner, and once both are free again.
-fn all_in_time<H: Wait + Clock + Drop + AllocGlobal>(
+// What the calls of a mutex answer while it is free, while it has an owner, and once it is free again.
+fn mutex_in_time<H: Wait + Clock + Drop + AllocGlobal>(
     rt: &H,
     room: u16,
-) -> io::Result<[[Answer; 6]; 3]> {
+) -> io::Result<[[Answer; 2]; 3]> {
     let clock = OnClock::new(rt, STEP);
     let mutex = mutex_on(lock_of(&clock, rt.alloc(), room)?, 7);
+    let free = of_mutex(&clock, &mutex)?;
+    let held = mutex.try_lock();
+    let late = of_mutex(&clock, &mutex)?;
+    drop(held);
+    Ok([free, late, of_mutex(&clock, &mutex)?])
+}
+
+// The same of a reader-writer lock that has a writer meanwhile.
+fn rw_lock_in_time<H: Wait + Clock + Drop + AllocGlobal>(
+    rt: &H,
+    room: u16,
+) -> io::Result<[[Answer; 4]; 3]> {
+    let clock = OnClock::new(rt, STEP);
     let lock = rwlock_on(lock_of(&clock, rt.alloc(), room)?, 7);
-    let free = all_calls(&clock, &mutex, &lock)?;
-    let owner = mutex.try_lock();
-    let writer = lock.try_write();
-    let late = all_calls(&clock, &mutex, &lock)?;
-    drop(owner);
-    drop(writer);
-    Ok([free, late, all_calls(&clock, &mutex, &lock)?])
+    let free = of_rw_lock(&clock, &lock)?;
+    let held = lock.try_write();
+    let late = of_rw_lock(&clock, &lock)?;
+    drop(held);
+    Ok([free, late, of_rw_lock(&clock, &lock)?])
 }
 
 // With room for a waiter a call is late beside an owner, and with none it is refused.
 #[test]
 fn guards_are_had_in_time_or_not_at_all(rt: HostRuntime) {
     for (room, other) in [(1, Ok(false)), (0, Err(Full))] {
-        let answers = all_in_time(&rt, room);
-        same!(rt; answers.ok(), Some([[Ok(true); 6], [other; 6], [Ok(true); 6]]));
+        let mutex = mutex_in_time(&rt, room);
+        same!(rt; mutex.ok(), Some([[Ok(true); 2], [other; 2], [Ok(true); 2]]));
+        let rw_lock = rw_lock_in_time(&rt, room);
+        same!(rt; rw_lock.ok(), Some([[Ok(true); 4], [other; 4], [Ok(true); 4]]));
     }
 }
