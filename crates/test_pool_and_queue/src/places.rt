@@ -23,7 +23,7 @@ pub(crate) trait Host: Wait + Clock + RandomSource + AllocGlobal {}
 
 impl<H: Wait + Clock + RandomSource + AllocGlobal> Host for H {}
 
-// The ways not to wait, and to wait, by how verbs end that are said in them; `try` stands ahead of its verb, and who waits for ever says nothing.
+// The ending of a verb for each way of waiting: `pop_for`, `pop_until`, `pop_async`, and none for a wait without a limit. `try` is in front: `try_pop`.
 static WAYS: [&str; 5] = ["try", "_for", "_until", "_async", ""];
 
 /// What is tried: in which way, what is done, with which item, and for how long a timed call waits.
