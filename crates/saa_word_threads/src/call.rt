@@ -118,7 +118,7 @@ impl Form {
         Left { seat, number }
     }
 
-    // Makes the next step of a pending call; where that begins a walk, it makes the whole walk.
+    // Makes the next step of a pending call; where that begins a walk or a look for itself, it makes the whole of it.
     fn go<R: Wait, W: Watch>(
         &self,
         rt: &R,
@@ -131,20 +131,29 @@ impl Form {
         ensures same { IsSameSeat seat.old seat.new }
         ensures next { GoesOn self.now pending.now place result seat.new }
     {
-        let Stage::BackLoad {
-            seen,
-            current,
-            newer,
-        } = place.stage
-        else {
-            return self.act::<Brand, W>(watch, seat, place, pending);
-        };
-        let walk = Walk {
-            course: pending,
-            place,
-        };
-        self.settle(rt, watch, seat, &walk, seen, current, newer);
-        finish(place)
+        match place.stage {
+            Stage::BackLoad {
+                seen,
+                current,
+                newer,
+            } => {
+                let walk = Walk {
+                    course: pending,
+                    place,
+                };
+                self.settle(rt, watch, seat, &walk, seen, current, newer);
+                finish(place)
+            }
+            Stage::LookLoad {
+                seen,
+                current,
+                newer,
+                previous,
+            } => self.look_back(
+                rt, watch, seat, place, pending, seen, current, newer, previous,
+            ),
+            _ => self.act::<Brand, W>(watch, seat, place, pending),
+        }
     }
 
     // Goes on with a call to its end, from the stage that its place is at.

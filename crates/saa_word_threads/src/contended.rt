@@ -24,7 +24,7 @@ use saa_word_steps::place::{Ask, Next, Place as Position, ReleaseAmount, Stage};
 use std::sync::Wait;
 
 impl Form {
-    // Goes on with an ask that has found a word which doesn't grant it.
+    // Goes on with an ask that has found a word which doesn't grant it: one without spins joins at once where it must.
     #[cold]
     pub(crate) fn ask_on<R: Wait, W: Watch>(
         &self,
@@ -42,6 +42,15 @@ impl Form {
         ensures ended { HasEnded self.now pending position.new result seat.new }
     {
         let stage = Stage::AcquireLoad { ask };
+        if ask.joins
+            && spin_policy.turns() == 0
+            && self.must_join(Word::unpack(found), ask.request)
+        {
+            let place = Position { stage, ..*position };
+            let (behind, answer) = self.join_on(rt, watch, seat, place, pending);
+            *position = behind;
+            return answer;
+        }
         self.follow(
             rt,
             watch,

@@ -179,7 +179,7 @@ impl Form {
 
     // Loads a word, at this stage of a pending call.
     #[inline(always)]
-    fn pending_load<M: Mover>(
+    pub(crate) fn pending_load<M: Mover>(
         &self,
         seat: &mut Seat<(), View>,
         at: Snapshot<Position>,
@@ -197,7 +197,7 @@ impl Form {
 
     // Writes a word, at this stage of a pending call.
     #[inline(always)]
-    fn pending_store<M: Mover, W: Watch>(
+    pub(crate) fn pending_store<M: Mover, W: Watch>(
         &self,
         watch: &W,
         seat: &mut Seat<(), View>,

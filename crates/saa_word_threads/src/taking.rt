@@ -1,7 +1,8 @@
-//! The straight path of a poll that waits: it takes the own answer by one swap, once the answer is there.
+//! The straight path of a poll that waits: it takes the own answer by a swap, and looks for it by the same swap while it spins.
 //!
-//! The swap is the very step of `act`, of the same stage, but contracts alone see the stage. While no answer is there, the place looks and makes no step:
-//! a swap would find nothing, and yet take the word's cache line from the call that answers.
+//! The swap is the very step of `act`, of the same stage, but contracts alone see the stage. A swap that finds nothing changes nothing; and once the
+//! answer is there, the swap that finds it has it. A look that only reads would bring the word's cache line here, and the swap behind it would have to
+//! claim the line once more. A place whose spins are over only reads, while it yields or parks.
 
 ghost use Rattle.std.specs.Prelude.{◌≡◌};
 ghost use Rattle.saa_word_steps.specs.declared.call.WordCall.TheVariants.{Poll};
@@ -18,7 +19,8 @@ use crate::form::Form;
 use crate::limit::Endless;
 use crate::place::Place;
 use crate::table::{Mover, View};
-use crate::watch::{Moment, Watch};
+use crate::waiting::LOOKS;
+use crate::watch::{Moment, Pause, Watch};
 use atomic_table::Seat;
 use saa_core_words::answer_word;
 use saa_word_steps::call::{Answer, WordCall};
@@ -65,17 +67,40 @@ impl Form {
         ensures ended { HasEnded self.now pending position.new result seat.new }
     {
         for _ in rt.forever() {
-            if self.is_answered(pending.me)
-                && let Some(value) = self.take_shown(seat, *position, &pending)
-            {
+            if let Some(value) = self.spin_and_take(watch, seat, *position, &pending) {
                 position.registration = Registration::Idle;
                 position.stage = Stage::Quiet;
                 return Answer::Taken(Ok(value == GRANTED));
             }
-            watch.at(Moment::IsBlocked);
-            self.await_answer(rt, watch, pending.me, &Endless);
+            self.await_changed(rt, watch, pending.me, &Endless);
         }
         unreachable!()
+    }
+
+    // Takes the own answer: at once, or while it spins. Its value, or `None` where it isn't there in that time.
+    fn spin_and_take<W: Watch>(
+        &self,
+        watch: &W,
+        seat: &mut Seat<(), View>,
+        position: Position,
+        pending: &Pending,
+    ) -> Option<u8>
+        requires { IsPending self.now pending.now (at_stage position (Take Awaits)) seat.old }
+        ensures same { IsSameSeat seat.old seat.new }
+        ensures next { GoesOn self.now pending.now (at_stage position (Take Awaits)) (taken_answer (needs self.now) (at_stage position (Take Awaits)) Awaits result) seat.new }
+    {
+        if let Some(value) = self.take_shown(seat, position, pending) {
+            return Some(value);
+        }
+        watch.at(Moment::IsBlocked);
+        for _turn in 0..LOOKS {
+            watch.at(Moment::LooksForAnswer);
+            if let Some(value) = self.take_shown(seat, position, pending) {
+                return Some(value);
+            }
+            Pause::SpinsForAnswer.make(watch);
+        }
+        None
     }
 
     // Takes the own answer by a swap: its value, or `None` where it isn't there.

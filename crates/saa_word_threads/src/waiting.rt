@@ -9,7 +9,7 @@ use saa_word_steps::place::Stage;
 use std::sync::Wait;
 
 // How often a place looks at its answer word before it begins to yield, and how often it yields before it parks.
-const LOOKS: u32 = 50;
+pub(crate) const LOOKS: u32 = 50;
 
 const YIELDS: u32 = 500;
 
@@ -54,7 +54,23 @@ impl Form {
         requires { me < self.now.places }
     {
         let cell = self.cell(usize::from(self.places) + usize::from(me) + 1);
-        if self.spins_until_changed(watch, cell) || self.yields_until_changed(watch, cell, limit) {
+        if !self.spins_until_changed(watch, cell) {
+            self.await_changed(rt, watch, me, limit);
+        }
+    }
+
+    // The same of a place that has spun: it yields, and then parks.
+    pub(crate) fn await_changed<R: Wait, W: Watch, L: Limit>(
+        &self,
+        rt: &R,
+        watch: &W,
+        me: u16,
+        limit: &L,
+    )
+        requires { me < self.now.places }
+    {
+        let cell = self.cell(usize::from(self.places) + usize::from(me) + 1);
+        if self.yields_until_changed(watch, cell, limit) {
             return;
         }
         let Some(left) = limit.left() else {

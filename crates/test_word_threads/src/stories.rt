@@ -140,7 +140,7 @@ const PARKING: &str = "\
 lock 2
 p0 marked -> false; p1 marked -> false; p0 try_share; p1 watched_wait exclusive; p1 looks -> 117; p1 rests -> 10232; p1 yields -> 100; p1 takes -> 0
 p1 answer_looks -> 50; p1 answer_spins -> 50; p1 answer_yields -> 500; p1 parks -> 1; p1 backs -> 0; p1 marked; p1 in_order; p0 watched_release_share
-p1 ends; p0 writes -> 1; p0 answers -> 1; p0 wakes -> 1; p1 answer_looks -> 50; p1 answer_yields -> 500; p1 parks -> 1; p1 backs -> 1
+p1 ends; p0 writes -> 1; p0 answers -> 1; p0 wakes -> 1; p1 answer_looks -> 50; p1 answer_yields -> 500; p1 parks -> 1; p1 backs -> 1; p1 blocks -> 1
 p1 marked -> false; faults -> 0; p1 release_lock; main -> 0
 
 # So do the public calls.
