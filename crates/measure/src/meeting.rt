@@ -18,6 +18,9 @@ const LENGTH: u64 = 40_000_000;
 // How many turns a thread takes from one look at the clock to the next.
 const BETWEEN_LOOKS: u64 = 64;
 
+// How long each thread spins before it begins, in nanoseconds.
+const SPREADING: u64 = 20_000_000;
+
 // How often a thread yields while it waits for the others: where threads were refused, they never come.
 const YIELDS: u64 = 10_000_000;
 
@@ -90,7 +93,11 @@ impl Meeting {
     /// Takes turns from when all are there until the meeting is over; or times them, and ends the meeting.
     pub fn attend<R: Wait + Clock, T: Taker>(&self, rt: &R, mut taker: T) {
         let is_first = self.arrived.fetch_add(1, Ordering::SeqCst) == 0;
-        if !self.await_all() {
+        if !self.await_all(1) || spread(rt).is_none() {
+            return;
+        }
+        self.arrived.fetch_add(1, Ordering::SeqCst);
+        if !self.await_all(2) {
             return;
         }
         if self.is_timed && is_first {
@@ -147,10 +154,12 @@ impl Meeting {
         Some(())
     }
 
-    // Waits until all are there; whether they came.
-    fn await_all(&self) -> bool {
+    // Waits until all have come so often; whether they did.
+    fn await_all(&self, times: u64) -> bool {
         for _ in 0..YIELDS {
-            if self.arrived.load(Ordering::SeqCst) == u64::from(self.threads) {
+            if self.arrived.load(Ordering::SeqCst)
+                >= u64::from(self.threads).saturating_mul(times)
+            {
                 return true;
             }
             yield_now();
@@ -188,6 +197,18 @@ impl Meeting {
         }
         is_over
     }
+}
+
+// Spins for a while, so that the threads are spread over the processors. Threads that yield to one another can share one processor for long, while
+// another has nothing to do. `None` where the clock was refused.
+fn spread<R: Wait + Clock>(rt: &R) -> Option<()> {
+    let start = Instant::now(rt).ok()?;
+    for _ in rt.forever() {
+        if nanos_since(rt, start)? >= SPREADING {
+            break;
+        }
+    }
+    Some(())
 }
 
 // The median of all waits, the 99th percentile and the longest; `None` where there aren't as many as there should be.

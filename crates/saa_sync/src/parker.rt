@@ -13,10 +13,12 @@ use std::time::{Clock, Duration};
 /// How long a waiter stays awake, in every threaded form. Measured with 2, 4 and 8 threads on 4 processors: a sleep costs some five
 /// microseconds and a wake that comes sooner is the common one, so a waiter yields long before it parks. It looks without a yield for less
 /// than the time of a hand-off: where calls join at once, and as many threads take turns as there are processors, 500 looks made a turn a
-/// third longer and the longest waits four times as long; with more threads than processors looks alone are ruinous.
+/// third longer and the longest waits four times as long; with more threads than processors looks alone are ruinous. If it yielded for less
+/// than a few wakes take, all waiters would park for each turn once one of them had: with 500 yields strict turns of a microsecond came to take
+/// 12 to 38 in some runs.
 pub const WAITER: SpinPolicy = SpinPolicy {
     looks: 50,
-    yields: 500,
+    yields: 2_000,
 };
 
 // What a parker is: its waiter is awake, is notified, or may be parked.

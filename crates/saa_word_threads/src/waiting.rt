@@ -8,10 +8,11 @@ use crate::watch::{Moment, Pause, Watch};
 use saa_word_steps::place::Stage;
 use std::sync::Wait;
 
-// How often a place looks at its answer word before it begins to yield, and how often it yields before it parks.
+// How often a place looks at its answer word before it begins to yield, and how often it yields before it parks. To wake a thread takes as long as many turns:
+// if a waiter yielded for less than a few wakes take, all waiters would park for each turn once one of them had.
 pub(crate) const LOOKS: u32 = 50;
 
-const YIELDS: u32 = 500;
+const YIELDS: u32 = 2_000;
 
 impl Form {
     // Waits a while at this stage: for the own answer, and else for the flag's holder, which has no word to park on.

@@ -100,5 +100,5 @@ fn calls_spin_and_wake_as_the_stories_say(rt: HostRuntime) -> Result<(), Fail> {
 #[test]
 fn policies_are_what_is_said_of_them(rt: HostRuntime) {
     same!(rt; (DEFAULT.looks, DEFAULT.yields), (16, 100));
-    same!(rt; (WAITER.looks, WAITER.yields), (50, 500));
+    same!(rt; (WAITER.looks, WAITER.yields), (50, 2_000));
 }

@@ -9,7 +9,7 @@
 //! | `semaphore 63 2`, `lock 2`, `rwlock` | a semaphore of which so many permits are withheld, with places; a lock; a reader-writer lock with two places, of the value 5 |
 //! | `register 5`, `register shared`, `register_each` | a registration, that of the lock in a mode, or in the mode whose turn it is; a crowd makes them one after another |
 //! | `watched_release 5`, `watched_acquire`, .. | the call beside a watch, with the spin policy that `spins 12 3` (looks and yields) sets |
-//! | `poll_for 1h`, `poll_now`, `poll_within 502`, `poll_task a` | a poll by a duration, until now, with a limit that is up once it was asked so often, and for a task |
+//! | `poll_for 1h`, `poll_now`, `poll_within 2002`, `poll_task a` | a poll by a duration, until now, with a limit that is up once it was asked so often, and for a task |
 //! | `p1 looks`, `rests`, `parks`, .. | how often a watched call of the place did so ([`crate::tally`]); `in_order`: rests grew, and came before yields |
 //! | `p1 marked`, `p1 deferred`, `crowd 24 ended` | its mark is set; it was blocked, and yielded each time, 100 times at least; how many have ended their calls |
 //! | `at_looks 3 pass`, `at_takes 1 try_lock` | at that moment of a watched call, the so manieth or each (0), a visitor makes a call; `refused` says how often in vain |

@@ -135,12 +135,12 @@ lock 1
 may_exchange; p0 try_lock; may_exchange -> false; p0 poison; may_exchange
 ";
 
-// A waiter looks for its answer 50 times and spins, then yields 500 times, and parks, with its mark set. It sleeps until it is woken, after its answer is written.
+// A waiter looks for its answer 50 times and spins, then yields 2,000 times, and parks, with its mark set. It sleeps until it is woken, after its answer is written.
 const PARKING: &str = "\
 lock 2
 p0 marked -> false; p1 marked -> false; p0 try_share; p1 watched_wait exclusive; p1 looks -> 117; p1 rests -> 10232; p1 yields -> 100; p1 takes -> 0
-p1 answer_looks -> 50; p1 answer_spins -> 50; p1 answer_yields -> 500; p1 parks -> 1; p1 backs -> 0; p1 marked; p1 in_order; p0 watched_release_share
-p1 ends; p0 writes -> 1; p0 answers -> 1; p0 wakes -> 1; p1 answer_looks -> 50; p1 answer_yields -> 500; p1 parks -> 1; p1 backs -> 1; p1 blocks -> 1
+p1 answer_looks -> 50; p1 answer_spins -> 50; p1 answer_yields -> 2000; p1 parks -> 1; p1 backs -> 0; p1 marked; p1 in_order; p0 watched_release_share
+p1 ends; p0 writes -> 1; p0 answers -> 1; p0 wakes -> 1; p1 answer_looks -> 50; p1 answer_yields -> 2000; p1 parks -> 1; p1 backs -> 1; p1 blocks -> 1
 p1 marked -> false; faults -> 0; p1 release_lock; main -> 0
 
 # So do the public calls.
@@ -158,7 +158,7 @@ p1 register 5; p1 poll_for 1h -> ok; p1 marked; p0 release 5; p1 ends; p1 releas
 
 semaphore 63 2
 p1 watched_acquire 5; p1 marked; p0 release 5; p1 ends; p1 looks -> 117; p1 rests -> 10232; p1 yields -> 100; p1 takes -> 0; p1 answer_looks -> 50
-p1 answer_spins -> 50; p1 answer_yields -> 500; p1 parks -> 1; p1 backs -> 1; faults -> 0; p1 release 5; main -> 58
+p1 answer_spins -> 50; p1 answer_yields -> 2000; p1 parks -> 1; p1 backs -> 1; faults -> 0; p1 release 5; main -> 58
 
 # A timed poll ends with its answer, or in time.
 lock 2
@@ -167,7 +167,7 @@ p1 poll_now -> not_ready; p1 poll_for 2ms -> not_ready; p1 ends; p0 release_lock
 
 # Its limit is asked first, before each yield, and as it parks. Once its time is up its mark is cleared, and it leaves the queue by a cancel.
 lock 2
-p0 try_lock; p1 register exclusive; p1 poll_within 502 -> not_ready; p1 ends; p1 answer_looks -> 50; p1 answer_spins -> 50; p1 answer_yields -> 500
+p0 try_lock; p1 register exclusive; p1 poll_within 2002 -> not_ready; p1 ends; p1 answer_looks -> 50; p1 answer_spins -> 50; p1 answer_yields -> 2000
 p1 parks -> 1; p1 backs -> 1; p1 marked -> false; p1 cancel; p0 release_lock; p0 is_free; faults -> 0; line_word 1 -> 0; answer_word 1 -> 0
 
 lock 2
@@ -200,8 +200,8 @@ p0 watched_release_share; p0 writes -> 0; p0 answers -> 0; p0 wakes -> 0; a woke
 
 # A thread that parks until its time is up leaves the waker of a task.
 lock 2
-p0 try_share; p1 register exclusive; p1 poll_task a -> pending; p1 poll_within 502 -> not_ready; p1 ends; a woken -> false; p0 watched_release_share
-p0 writes -> 1; p0 answers -> 1; p0 wakes -> 1; faults -> 0; a woken; p1 poll_within 502 -> true; p1 ends; a woken; p1 release_lock; b woken -> false
+p0 try_share; p1 register exclusive; p1 poll_task a -> pending; p1 poll_within 2002 -> not_ready; p1 ends; a woken -> false; p0 watched_release_share
+p0 writes -> 1; p0 answers -> 1; p0 wakes -> 1; faults -> 0; a woken; p1 poll_within 2002 -> true; p1 ends; a woken; p1 release_lock; b woken -> false
 
 # Poison answers a task.
 lock 2
